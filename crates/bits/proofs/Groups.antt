@@ -70,12 +70,12 @@ reads-back bs place len v h =
     let rest = drop (place + n) bs in
     let lt : length (take place bs) ≡ place = length-take-le place bs (omega arith) in
     ap (λ r. number (take n (drop place r ++ replicate n false)))
-      (take-all (length bs) (take place bs ++ (row n v ++ rest))
-        (let b = length-append (take place bs) (row n v ++ rest) in
-         let c = length-append (row n v) rest in
-         let e = length-row n v in
-         let f = length-drop (place + n) bs in
-         omega arith))
+    (take-all (length bs) (take place bs ++ (row n v ++ rest))
+    (let b = length-append (take place bs) (row n v ++ rest) in
+    let c = length-append (row n v) rest in
+    let e = length-row n v in
+    let f = length-drop (place + n) bs in
+    omega arith))
     ∙ ap (λ r. number (take n (r ++ replicate n false))) (drop-at (take place bs) (row n v ++ rest) place lt)
     ∙ ap (λ r. number (take n r)) (append-assoc (row n v) rest (replicate n false))
     ∙ ap number (take-at (row n v) (rest ++ replicate n false) n (length-row n v))

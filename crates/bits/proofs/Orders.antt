@@ -159,6 +159,6 @@ same-rank Greater Greater a b h k = refl
 pub order-row : (n a b : ℕ) (o : Ordering) → a < 2 ^ n → b < 2 ^ n → Ranked o (a < b) (a ≡ b) (b < a) → o ≡ order (row n a) (row n b)
 order-row n a b o ha hb r =
     same-rank o (order (row n a) (row n b)) a b r
-      (subst (λ y. Ranks (order (row n a) (row n b)) a y) (number-row n b ∙ mod-eq-of-lt hb)
-        (subst (λ x. Ranks (order (row n a) (row n b)) x (number (row n b))) (number-row n a ∙ mod-eq-of-lt ha)
-          (order-ranks (row n a) (row n b) (length-row n a ∙ sym (length-row n b)))))
+    (subst (λ y. Ranks (order (row n a) (row n b)) a y) (number-row n b ∙ mod-eq-of-lt hb)
+    (subst (λ x. Ranks (order (row n a) (row n b)) x (number (row n b))) (number-row n a ∙ mod-eq-of-lt ha)
+    (order-ranks (row n a) (row n b) (length-row n a ∙ sym (length-row n b)))))

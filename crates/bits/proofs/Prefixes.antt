@@ -32,8 +32,8 @@ row-number [] = refl
 row-number (b ∷ bs) =
     let l = length bs in
     ap₂ (λ x r. x ∷ r)
-      (ap (λ x. eqb (x % 2) 1) (high (bit b) l (number-lt bs)) ∙ bit-back b)
-      (sym (row-mod l (bit b * 2 ^ l + number bs)) ∙ ap (row l) (low (bit b) l (number-lt bs)) ∙ row-number bs)
+    (ap (λ x. eqb (x % 2) 1) (high (bit b) l (number-lt bs)) ∙ bit-back b)
+    (sym (row-mod l (bit b * 2 ^ l + number bs)) ∙ ap (row l) (low (bit b) l (number-lt bs)) ∙ row-number bs)
 
 pub same-number : (xs ys : List Bool) → length xs ≡ length ys → number xs ≡ number ys → xs ≡ ys
 same-number xs ys l e = sym (row-number xs) ∙ ap₂ row l e ∙ row-number ys
@@ -51,16 +51,16 @@ module _ (xs ys : List Bool) (same : length xs ≡ length ys) (p n : ℕ) (small
   more-same front e =
       take-add p n xs
       ∙ ap₂ (λ a b. a ++ b) front
-          (same-number (take n (drop p xs)) (take n (drop p ys))
-            (length-take n (drop p xs) ∙ ap (min n) (length-drop p xs ∙ ap (λ i. i - p) same ∙ sym (length-drop p ys)) ∙ sym (length-take n (drop p ys)))
-            (sym read-x ∙ e ∙ read-y))
+      (same-number (take n (drop p xs)) (take n (drop p ys))
+      (length-take n (drop p xs) ∙ ap (min n) (length-drop p xs ∙ ap (λ i. i - p) same ∙ sym (length-drop p ys)) ∙ sym (length-take n (drop p ys)))
+      (sym read-x ∙ e ∙ read-y))
       ∙ sym (take-add p n ys)
 
   pub group-same : (len : ℕ) → p + n ≤ len → take len xs ≡ take len ys → read-group xs p n ≡ read-group ys p n
   group-same len h e =
       read-x
       ∙ ap number
-          (sym (drop-take p n xs) ∙ ap (drop p) (sym (take-take (p + n) len xs h) ∙ ap (take (p + n)) e ∙ take-take (p + n) len ys h) ∙ drop-take p n ys)
+      (sym (drop-take p n xs) ∙ ap (drop p) (sym (take-take (p + n) len xs h) ∙ ap (take (p + n)) e ∙ take-take (p + n) len ys h) ∙ drop-take p n ys)
       ∙ sym read-y
 
 -- ---- the order of sound prefixes
@@ -150,17 +150,17 @@ between bs from to a b c =
 pub between-lt : (bs : List Bool) (from to : ℕ) → from ≤ to → to ≤ length bs → number (drop from (take to bs)) < 2 ^ (to - from)
 between-lt bs from to a c =
     subst (λ i. number (drop from (take to bs)) < 2 ^ i)
-      (length-drop from (take to bs) ∙ ap (λ i. i - from) (length-take-le to bs c))
-      (number-lt (drop from (take to bs)))
+    (length-drop from (take to bs) ∙ ap (λ i. i - from) (length-take-le to bs c))
+    (number-lt (drop from (take to bs)))
 
 -- the first bits of rows, when the rows end
 pub take-more-than : (xs : List Bool) (n w len : ℕ) → length xs ≡ w → n ≡ min len w → take len xs ≡ take n xs
 take-more-than xs n w len lw e =
     let c : (len ≤ w) ⊎ (w < len) = ⊎-elim inr (λ h. inl h) (cases-lt w len) in
     ⊎-elim
-      (λ h. ap (λ i. take i xs) (omega arith))
-      (λ h. take-all len xs (omega arith) ∙ sym (take-all n xs (omega arith)))
-      c
+    (λ h. ap (λ i. take i xs) (omega arith))
+    (λ h. take-all len xs (omega arith) ∙ sym (take-all n xs (omega arith)))
+    c
 
 -- ---- a row that begins another
 
@@ -188,7 +188,7 @@ module _ (xs ys : Bits) (same : length xs ≡ length ys) (len : ℕ) where
   begins-other differ = elim (decided (begins (take len xs) ys)) [
     | holds h ↦ absurd (differ
         (sym (front-from-begins (take len xs) ys h)
-         ∙ ap (λ i. take i ys) (length-take len xs ∙ ap (min len) same)
-         ∙ sym (take-more-than ys (min len (length ys)) (length ys) len refl refl)))
+        ∙ ap (λ i. take i ys) (length-take len xs ∙ ap (min len) same)
+        ∙ sym (take-more-than ys (min len (length ys)) (length ys) len refl refl)))
     | fails h ↦ h
   ]

@@ -30,8 +30,8 @@ unfolding number row
 number-row zero v = sym (mod-one v)
 number-row (suc n) v =
     ap₂ (λ x y. x + y)
-      (ap₂ (λ x k. x * 2 ^ k) (digit (v / 2 ^ n % 2) (mod-lt (v / 2 ^ n) (omega arith))) (length-row n v))
-      (number-row n v)
+    (ap₂ (λ x k. x * 2 ^ k) (digit (v / 2 ^ n % 2) (mod-lt (v / 2 ^ n) (omega arith))) (length-row n v))
+    (number-row n v)
     ∙ sym (ap (λ k. v % 2 ^ k) (sym (one-add n)) ∙ mod-pow-add v 1 n)
 
 pub row-split : (a b v : ℕ) → row (a + b) v ≡ row a (v / 2 ^ b) ++ row b v
@@ -46,8 +46,8 @@ unfolding row
 row-mod zero v = refl
 row-mod (suc n) v =
     ap₂ (λ x r. eqb x 1 ∷ r)
-      (ap (λ k. v % 2 ^ k / 2 ^ n % 2) (sym (one-add n)) ∙ ap (λ x. x % 2) (field v 1 n) ∙ mod-mod (v / 2 ^ n) 2)
-      (sym (row-mod n (v % 2 ^ suc n)) ∙ ap (row n) (ap (λ k. v % 2 ^ k % 2 ^ n) (sym (one-add n)) ∙ mod-mod-pow v 1 n) ∙ row-mod n v)
+    (ap (λ k. v % 2 ^ k / 2 ^ n % 2) (sym (one-add n)) ∙ ap (λ x. x % 2) (field v 1 n) ∙ mod-mod (v / 2 ^ n) 2)
+    (sym (row-mod n (v % 2 ^ suc n)) ∙ ap (row n) (ap (λ k. v % 2 ^ k % 2 ^ n) (sym (one-add n)) ∙ mod-mod-pow v 1 n) ∙ row-mod n v)
 
 pub row-zero : (n : ℕ) → row n 0 ≡ replicate n false
 unfolding row
@@ -59,7 +59,7 @@ pub row-join : (a b x y : ℕ) → y < 2 ^ b → row (a + b) (x * 2 ^ b + y) ≡
 row-join a b x y h =
     row-split a b (x * 2 ^ b + y)
     ∙ ap₂ (λ p q. row a p ++ q) (high x b h)
-        (sym (row-mod b (x * 2 ^ b + y)) ∙ ap (row b) (low x b h))
+    (sym (row-mod b (x * 2 ^ b + y)) ∙ ap (row b) (low x b h))
 
 -- ---- parts of a row
 
@@ -74,7 +74,7 @@ pub row-shl : (k n v : ℕ) → row (k + n) (v * 2 ^ n) ≡ row k v ++ replicate
 row-shl k n v =
     row-split k n (v * 2 ^ n)
     ∙ ap₂ (λ p q. row k p ++ q) (shl-shr v n)
-        (sym (row-mod n (v * 2 ^ n)) ∙ ap (row n) (mul-mod-left v (2 ^ n)) ∙ row-zero n)
+    (sym (row-mod n (v * 2 ^ n)) ∙ ap (row n) (mul-mod-left v (2 ^ n)) ∙ row-zero n)
 
 -- the n bits from place p of a row of p + k bits, zeros behind them, by a shift up and one down in a word of n + m bits
 pub read-row : (p k v n j m : ℕ) → k + j ≡ n + m
@@ -85,9 +85,9 @@ read-row p k v n j m e =
     ∙ ap number (take-row n k (v * 2 ^ n))
     ∙ number-row n (v * 2 ^ n / 2 ^ k)
     ∙ ap (λ x. x % 2 ^ n)
-        (sym (mul-div-mul-right (v * 2 ^ n) (2 ^ k) (pow-pos j))
-         ∙ ap₂ (λ x y. x / y) (mul-right-comm v (2 ^ n) (2 ^ j)) (sym (pow-add 2 k j) ∙ ap (λ i. 2 ^ i) (e ∙ add-comm n m) ∙ pow-add 2 m n)
-         ∙ mul-div-mul-right (v * 2 ^ j) (2 ^ m) (pow-pos n))
+    (sym (mul-div-mul-right (v * 2 ^ n) (2 ^ k) (pow-pos j))
+    ∙ ap₂ (λ x y. x / y) (mul-right-comm v (2 ^ n) (2 ^ j)) (sym (pow-add 2 k j) ∙ ap (λ i. 2 ^ i) (e ∙ add-comm n m) ∙ pow-add 2 m n)
+    ∙ mul-div-mul-right (v * 2 ^ j) (2 ^ m) (pow-pos n))
     ∙ sym (field (v * 2 ^ j) n m)
 
 -- ---- writing: p bits, then the k bits that are written, then s more
@@ -110,15 +110,15 @@ module _ {p k s head x rest v : ℕ} (h : Parts p k s head x rest v) where
   whole-row =
       row-split (p + k) s v
       ∙ ap₂ (λ a b. a ++ b)
-          (row-split p k (v / 2 ^ s) ∙ ap (λ y. row p y ++ row k (v / 2 ^ s)) (sym (h .head-is)))
-          (sym (row-mod s v) ∙ ap (row s) (sym (h .rest-is)))
+      (row-split p k (v / 2 ^ s) ∙ ap (λ y. row p y ++ row k (v / 2 ^ s)) (sym (h .head-is)))
+      (sym (row-mod s v) ∙ ap (row s) (sym (h .rest-is)))
 
   pub written-lt : v < 2 ^ (p + k + s) → (head * 2 ^ k + x) * 2 ^ s + rest < 2 ^ (p + k + s)
   written-lt l =
       let hv : v / 2 ^ s < 2 ^ (p + k) = shr-lt (p + k) s l in
       let hh : head < 2 ^ p = subst (λ r. r < 2 ^ p) (sym (h .head-is)) (shr-lt p k hv) in
       subst (λ y. (head * 2 ^ k + x) * 2 ^ s + rest < y) (sym (pow-add 2 (p + k) s ∙ ap (λ y. y * 2 ^ s) (pow-add 2 p k)))
-        (digits-lt (digits-lt hh (h .small)) rest-lt)
+      (digits-lt (digits-lt hh (h .small)) rest-lt)
 
   take-front : take p (row (p + k + s) v) ≡ row p head
   take-front =
@@ -145,15 +145,15 @@ module _ {p k s head x rest v : ℕ} (h : Parts p k s head x rest v) where
         written-row
         ∙ append-assoc (row p head) (row k x) (row s rest)
         ∙ ap₂ (λ a b. a ++ b) (sym take-front)
-            (ap₂ (λ a b. a ++ b) xk (sym drop-back ∙ ap (λ i. drop (p + i) (row (p + k + s) v)) (sym nk)))
+        (ap₂ (λ a b. a ++ b) xk (sym drop-back ∙ ap (λ i. drop (p + i) (row (p + k + s) v)) (sym nk)))
         ∙ sym (take-all (length (row (p + k + s) v)) (take p (row (p + k + s) v) ++ (row n value ++ drop (p + n) (row (p + k + s) v)))
-            (let a = length-append (take p (row (p + k + s) v)) (row n value ++ drop (p + n) (row (p + k + s) v)) in
-             let b = length-append (row n value) (drop (p + n) (row (p + k + s) v)) in
-             let c = ap length take-front ∙ length-row p head in
-             let d = length-row n value in
-             let f = length-row (p + k + s) v in
-             let g = length-drop (p + n) (row (p + k + s) v) in
-             omega arith))
+        (let a = length-append (take p (row (p + k + s) v)) (row n value ++ drop (p + n) (row (p + k + s) v)) in
+        let b = length-append (row n value) (drop (p + n) (row (p + k + s) v)) in
+        let c = ap length take-front ∙ length-row p head in
+        let d = length-row n value in
+        let f = length-row (p + k + s) v in
+        let g = length-drop (p + n) (row (p + k + s) v) in
+        omega arith))
 
     cut : s ≡ 0 → Goal
     unfolding row

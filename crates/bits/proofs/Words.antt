@@ -46,13 +46,13 @@ module _ (D w place p len n v : ℕ) (fits : w ≤ D) (six : 6 ≤ D) (hp : p �
 pub read-top : (D w place p len n v : ℕ) → w ≤ D → 6 ≤ D → p ≡ min place w → n ≡ min len 6 → top D w p v / 2 ^ (D - 6) / 2 ^ (6 - n) ≡ read-group (row w v) place len
 read-top D w place p len n v fits six hp hn =
     ⊎-elim
-      (λ h. inside D w place p len n v fits six hp hn (omega arith))
-      (λ h.
-        let l = length-row w v in
-        inside D w p p len n v fits six (omega arith) hn refl
-        ∙ read-behind (row w v) p len (omega arith)
-        ∙ sym (read-behind (row w v) place len (omega arith)))
-      (cases-lt place w)
+    (λ h. inside D w place p len n v fits six hp hn (omega arith))
+    (λ h.
+    let l = length-row w v in
+    inside D w p p len n v fits six (omega arith) hn refl
+    ∙ read-behind (row w v) p len (omega arith)
+    ∙ sym (read-behind (row w v) place len (omega arith)))
+    (cases-lt place w)
 
 pub clear-top : (D w place p v : ℕ) → w ≤ D → p ≡ min place w → eqb (top D w p v) 0 ≡ clear (drop place (row w v))
 clear-top D w place p v fits hp =
@@ -63,9 +63,9 @@ clear-top D w place p v fits hp =
     ∙ sym (clear-row p (w - p) v (D - (w - p)))
     ∙ ap (λ k. clear (drop p (row k v))) ew
     ∙ ⊎-elim
-        (λ h. ap (λ i. clear (drop i (row w v))) (omega arith))
-        (λ h. clear-behind (row w v) p (omega arith) ∙ sym (clear-behind (row w v) place (omega arith)))
-        (cases-lt place w)
+    (λ h. ap (λ i. clear (drop i (row w v))) (omega arith))
+    (λ h. clear-behind (row w v) p (omega arith) ∙ sym (clear-behind (row w v) place (omega arith)))
+    (cases-lt place w)
 
 -- shifting up in two steps, the first of which loses nothing
 pub top-by-steps : (D w p v : ℕ) → w ≤ D → p ≤ w → v < 2 ^ w → ((v * 2 ^ (D - w)) % 2 ^ D * 2 ^ p) % 2 ^ D ≡ top D w p v
@@ -82,8 +82,8 @@ module _ (D p k s v x : ℕ) (fits : p + k + s ≤ D) (some : 0 < k) (hv : v < 2
       let hh : head < 2 ^ p = shr-lt p k (shr-lt (p + k) s hv) in
       let hi : head * 2 ^ k + x < 2 ^ (p + k) = subst (λ y. head * 2 ^ k + x < y) (sym (pow-add 2 p k)) (digits-lt hh hx) in
       ap₂ (λ a b. bitOr ((a * 2 ^ s) % 2 ^ D) (v % b))
-        (ap (λ a. bitOr a x) (shl-whole head p k D hh (omega arith)) ∙ or-shifted head k x hx)
-        (one-shl s D (omega arith))
+      (ap (λ a. bitOr a x) (shl-whole head p k D hh (omega arith)) ∙ or-shifted head k x hx)
+      (one-shl s D (omega arith))
       ∙ ap (λ a. bitOr a (v % 2 ^ s)) (shl-whole (head * 2 ^ k + x) (p + k) s D hi fits)
       ∙ or-shifted (head * 2 ^ k + x) s (v % 2 ^ s) (mod-lt v (pow-pos s))
 
@@ -115,7 +115,7 @@ module _ (D w p k s n v value len : ℕ) (hw : p + k + s ≡ w) (fits : w ≤ D)
       let x = low-word value n k in
       let f : p + k + s ≤ D = omega arith in
       subst (λ i. write-word D k s n v value < 2 ^ i) hw
-        (subst (λ y. y < 2 ^ (p + k + s)) (sym (packed D p k s v x f some hv′ low-lt)) (written-lt (parts D p k s v x f some hv′ low-lt) hv′))
+      (subst (λ y. y < 2 ^ (p + k + s)) (sym (packed D p k s v x f some hv′ low-lt)) (written-lt (parts D p k s v x f some hv′ low-lt) hv′))
 
   pub write-word-is : row w (write-word D k s n v value) ≡ write-group (row w v) p len value
   unfolding write-group

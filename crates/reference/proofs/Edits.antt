@@ -56,7 +56,7 @@ module _ {X : Type 0} (bits : X → Bits) where
       pub answered : granted a ≡ answer-of bits W t call
       answered =
           sym (ap (λ (p : Plain). answer W (t .nodes) p call) open-list
-               ∙ ap (λ (o : Outcome Done). and-then o (λ d. granted (d .answered))) granted-so)
+          ∙ ap (λ (o : Outcome Done). and-then o (λ d. granted (d .answered))) granted-so)
 
       pub left-so : left-of bits W t call ≡ holding (vec-items (t .plan)) rs
       left-so = ap (λ (p : Plain). left-by p (perform W (t .nodes) p call)) open-list ∙ ap (left-by held-list) granted-so

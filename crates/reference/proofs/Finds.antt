@@ -45,14 +45,15 @@ module _ {X : Type 0} (bits : X → Bits) (xs : List (Entry X)) where
           within = omega (arith, long);
           finds = find-end rs i p below e;
           puts = put-end rs i p below e;
-          follows = above-end rs i p below e }
+          follows = above-end rs i p below e;
+        }
 
     module _ (x : Entry X) (inside : i < length xs) (is : x ≡ getD xs i x) where
       pub more : order p (meant bits x .prefix) ≡ Greater → Below p (take (i + 1) rs)
       more e =
           let up : order (meant bits x .prefix) p ≡ Less = order-flips p (meant bits x .prefix) ∙ ap flipped e in
           let t : take (i + 1) rs ≡ take i rs ++ meant bits x ∷ [] =
-              take-more rs i (meant bits x) (omega (arith, long)) ∙ ap (λ (r : Route). take i rs ++ r ∷ []) (route-at i x inside is (meant bits x)) in
+          take-more rs i (meant bits x) (omega (arith, long)) ∙ ap (λ (r : Route). take i rs ++ r ∷ []) (route-at i x inside is (meant bits x)) in
           subst (Below p) (sym t) (below-push (take i rs) p (meant bits x) below up)
 
       pub missed : Ascending rs → order p (meant bits x .prefix) ≡ Less → Miss rs p i
@@ -62,7 +63,8 @@ module _ {X : Type 0} (bits : X → Bits) (xs : List (Entry X)) where
             within = omega (arith, long);
             finds = find-miss rs i p below (meant bits x) (drop (suc i) rs) at e s;
             puts = put-miss rs i p below (meant bits x) (drop (suc i) rs) at e;
-            follows = above-miss rs i p below (meant bits x) (drop (suc i) rs) at e }
+            follows = above-miss rs i p below (meant bits x) (drop (suc i) rs) at e;
+          }
 
       pub found : Ascending rs → order p (meant bits x .prefix) ≡ Equal → Hit rs p i
       found s e =
@@ -72,7 +74,8 @@ module _ {X : Type 0} (bits : X → Bits) (xs : List (Entry X)) where
             finds = λ d. find-hit rs i p below (meant bits x) (drop (suc i) rs) at e ∙ ap (λ (r : Route). Some (r .hop)) (sym (route-at i x inside is d));
             puts = λ h. put-hit rs i p below (meant bits x) (drop (suc i) rs) at e h ∙ sym (set-split rs i (route p h) (omega (arith, long)));
             takes = without-hit rs i p below (meant bits x) (drop (suc i) rs) at e s;
-            follows = above-hit rs i p below (meant bits x) (drop (suc i) rs) at e s ∙ ap (λ (k : ℕ). smallest (drop k rs)) (sym (add-one i)) }
+            follows = above-hit rs i p below (meant bits x) (drop (suc i) rs) at e s ∙ ap (λ (k : ℕ). smallest (drop k rs)) (sym (add-one i));
+          }
 
   -- the longest match of the routes from a place on
   module _ (address : Bits) where

@@ -9,9 +9,9 @@ use std::alloc::AllocError;
 use std::alloc::Global;
 use std::alloc::Refused as NoRoom;
 
+pub mod calls;
 mod places;
 mod plans;
-pub mod calls;
 
 /// A prefix and the hop, 0 to 4095, for the addresses that it matches.
 #[derive(Clone, Copy)]

@@ -16,9 +16,9 @@ returns-then-n-eq0 c =
     let bs = row 128 (c .args .v) in
     let l = length-row 128 (c .args .v) in
     ⊎-elim
-      (λ e. sym (write-none bs (c .args .place) (c .args .len) (c .args .value) (omega arith)))
-      (λ e. sym (write-behind bs (c .args .place) (c .args .len) (c .args .value) (omega (arith, e .1))))
-      (c .then-n-eq0 .either)
+    (λ e. sym (write-none bs (c .args .place) (c .args .len) (c .args .value) (omega arith)))
+    (λ e. sym (write-behind bs (c .args .place) (c .args .len) (c .args .value) (omega (arith, e .1))))
+    (c .then-n-eq0 .either)
 
 pub rem-rest : need.rem-rest
 rem-rest c =

@@ -31,11 +31,11 @@ returns-in-Ok g c k =
     let i = c .in-Ok .i in
     let inside : i < length xs = subst (λ (ys : List (Entry (g .A .Denot))). i < length ys) (c .as-slice .ensures .value) (c .in-Ok .ensures tt .within) in
     let hit : Keeps bits t → Hit (map (meant bits) xs) p i =
-        λ k. subst (λ (ys : List (Entry (g .A .Denot))). All (Held bits) ys → Ascending (map (meant bits) ys) → Sound a l → Hit (map (meant bits) ys) p i)
-          (c .as-slice .ensures .value) (c .in-Ok .ensures tt .cases) (k .held) (k .ascends) sound in
+    λ k. subst (λ (ys : List (Entry (g .A .Denot))). All (Held bits) ys → Ascending (map (meant bits) ys) → Sound a l → Hit (map (meant bits) ys) p i)
+    (c .as-slice .ensures .value) (c .in-Ok .ensures tt .cases) (k .held) (k .ascends) sound in
     let x = c .index .result .now in
     let there : find (map (meant bits) xs) p ≡ Some (x .hop) =
-        hit k .finds (meant bits x) ∙ ap (λ (r : Route). Some (r .hop)) (route-at bits xs i x inside (c .index .ensures) (meant bits x)) in
+    hit k .finds (meant bits x) ∙ ap (λ (r : Route). Some (r .hop)) (route-at bits xs i x inside (c .index .ensures) (meant bits x)) in
     ap (λ o. granted (hop-is o)) (sym there)
     ∙ answered bits (g .A·Address .width) t (exact a l) (ok .is-open) (hop-is (find (map (meant bits) xs) p)) (map (meant bits) xs)
-        (exact-granted (g .A·Address .width) (t .nodes) (vec-items (t .plan)) (map (meant bits) xs) a l (ok .short) (ok .clean))
+    (exact-granted (g .A·Address .width) (t .nodes) (vec-items (t .plan)) (map (meant bits) xs) a l (ok .short) (ok .clean))

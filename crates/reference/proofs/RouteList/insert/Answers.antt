@@ -38,8 +38,8 @@ returns-in-Ok g c =
     let i = c .in-Ok .i in
     let inside : i < length xs = subst (λ (ys : List (Entry (g .A .Denot))). i < length ys) (c .as-slice .ensures .value) (c .in-Ok .ensures tt .within) in
     let hit : Keeps bits t → Hit (map (meant bits) xs) p i =
-        λ k. subst (λ (ys : List (Entry (g .A .Denot))). All (Held bits) ys → Ascending (map (meant bits) ys) → Sound a l → Hit (map (meant bits) ys) p i)
-          (c .as-slice .ensures .value) (c .in-Ok .ensures tt .cases) (k .held) (k .ascends) sound in
+    λ k. subst (λ (ys : List (Entry (g .A .Denot))). All (Held bits) ys → Ascending (map (meant bits) ys) → Sound a l → Hit (map (meant bits) ys) p i)
+    (c .as-slice .ensures .value) (c .in-Ok .ensures tt .cases) (k .held) (k .ascends) sound in
     let rs = map (meant bits) xs in
     let W = g .A·Address .width in
     let h = c .args .hop in
@@ -47,20 +47,22 @@ returns-in-Ok g c =
     let small : leb h last-hop ≡ true = le-leb h last-hop (c .if-hop-gt-LAST-HOP .left) in
     let one : Held bits x = (sound, c .if-hop-gt-LAST-HOP .left) in
     let so : perform W (t .nodes) (holding (vec-items (t .plan)) rs) (insert a l h) ≡ done (inserted (find rs p)) (holding (vec-items (t .plan)) (put rs p h)) =
-        insert-granted W (t .nodes) (vec-items (t .plan)) rs a l (ok .short) (ok .clean) h small in
+    insert-granted W (t .nodes) (vec-items (t .plan)) rs a l (ok .short) (ok .clean) h small in
     let old = c .index .result .now in
     let there : Keeps bits t → find rs p ≡ Some (old .hop) =
-        λ k. hit k .finds (meant bits old) ∙ ap (λ (r : Route). Some (r .hop)) (route-at bits xs i old inside (c .index .ensures) (meant bits old)) in
+    λ k. hit k .finds (meant bits old) ∙ ap (λ (r : Route). Some (r .hop)) (route-at bits xs i old inside (c .index .ensures) (meant bits old)) in
     let left : Keeps bits t → map (meant bits) (set xs i x) ≡ put rs p h =
-        λ k. meant-set bits xs i x ∙ sym (hit k .puts h) in
+    λ k. meant-set bits xs i x ∙ sym (hit k .puts h) in
     record {
       answer = λ k. ap (λ o. granted (inserted o)) (sym (there k)) ∙ answered bits W t (insert a l h) (ok .is-open) (inserted (find rs p)) (put rs p h) so;
       after = λ k. then-shown bits W t (insert a l h) (ok .is-open) (inserted (find rs p)) (put rs p h) so (set xs i x) (left k);
       keeps = λ k. record {
         ascends = subst Ascending (sym (left k)) (put-ascends rs p h (k .ascends));
-        held = held-set bits xs i x (k .held) one };
+        held = held-set bits xs i x (k .held) one;
+      };
       size = refl;
-      memory = λ e. absurd (let z : _≡_ {A = ℕ} 0 1 = cc in omega arith) }
+      memory = λ e. absurd (let z : _≡_ {A = ℕ} 0 1 = cc in omega arith);
+    }
 
 pub returns-in-Continue-insert : need.returns-in-Continue-insert
 returns-in-Continue-insert g c =
@@ -74,8 +76,8 @@ returns-in-Continue-insert g c =
     let sound = sound-when (g .A·Address .width) a l (g .A·Address·met .long (c .args .prefix .address)) (ok .short) (ok .clean) in
     let i = c .in-Err .i in
     let miss : Keeps bits t → Miss (map (meant bits) xs) p i =
-        λ k. subst (λ (ys : List (Entry (g .A .Denot))). All (Held bits) ys → Ascending (map (meant bits) ys) → Sound a l → Miss (map (meant bits) ys) p i)
-          (c .as-slice .ensures .value) (c .in-Err .ensures tt .cases) (k .held) (k .ascends) sound in
+    λ k. subst (λ (ys : List (Entry (g .A .Denot))). All (Held bits) ys → Ascending (map (meant bits) ys) → Sound a l → Miss (map (meant bits) ys) p i)
+    (c .as-slice .ensures .value) (c .in-Err .ensures tt .cases) (k .held) (k .ascends) sound in
     let rs = map (meant bits) xs in
     let W = g .A·Address .width in
     let h = c .args .hop in
@@ -83,16 +85,18 @@ returns-in-Continue-insert g c =
     let small : leb h last-hop ≡ true = le-leb h last-hop (c .if-hop-gt-LAST-HOP .left) in
     let one : Held bits x = (sound, c .if-hop-gt-LAST-HOP .left) in
     let so : perform W (t .nodes) (holding (vec-items (t .plan)) rs) (insert a l h) ≡ done (inserted (find rs p)) (holding (vec-items (t .plan)) (put rs p h)) =
-        insert-granted W (t .nodes) (vec-items (t .plan)) rs a l (ok .short) (ok .clean) h small in
+    insert-granted W (t .nodes) (vec-items (t .plan)) rs a l (ok .short) (ok .clean) h small in
     let items = vec-items (c .insert .last .self) in
     let then = c .in-Continue-insert .ensures tt .items in
     let left : Keeps bits t → map (meant bits) items ≡ put rs p h =
-        λ k. ap (map (meant bits)) then ∙ meant-inserted bits xs i x ∙ sym (miss k .puts h) in
+    λ k. ap (map (meant bits)) then ∙ meant-inserted bits xs i x ∙ sym (miss k .puts h) in
     record {
       answer = λ k. ap (λ o. granted (inserted o)) (sym (miss k .finds)) ∙ answered bits W t (insert a l h) (ok .is-open) (inserted (find rs p)) (put rs p h) so;
       after = λ k. then-shown bits W t (insert a l h) (ok .is-open) (inserted (find rs p)) (put rs p h) so items (left k);
       keeps = λ k. record {
         ascends = subst Ascending (sym (left k)) (put-ascends rs p h (k .ascends));
-        held = subst (All (Held bits)) (sym then) (held-inserted bits xs i x (k .held) one) };
+        held = subst (All (Held bits)) (sym then) (held-inserted bits xs i x (k .held) one);
+      };
       size = refl;
-      memory = λ e. absurd (let z : _≡_ {A = ℕ} 0 1 = cc in omega arith) }
+      memory = λ e. absurd (let z : _≡_ {A = ℕ} 0 1 = cc in omega arith);
+    }

@@ -17,15 +17,17 @@ loop-i-again-then-matches g c =
     let xs = c .args .routes .now in
     let i = c .loop-i .i in
     let x = c .index-routes-i .result in
-    let lt : i - 1 < length xs = omega (arith, c .loop-i .inv .0) in
-    ( omega (arith, c .loop-i .inv .0),
+    let lt : i - 1 < length xs = omega (arith, c .loop-i .inv .0) in (
+      omega (arith, c .loop-i .inv .0),
       λ all.
-        let held : Held bits x = rw (c .index-routes-i .is) (all-getD (Held bits) xs (i - 1) x lt all) in
-        let before = c .loop-i .inv .1 all in
-        let best = c .longer-best .ensures held (before .1) in
-        ( best .0 ∙ ap (longer (meant bits x)) (before .0)
-          ∙ sym (longest-hit bits xs (bits (c .args .address .now)) i x (omega arith) lt (c .index-routes-i .is) (sym (c .if-matches .ensures tt))),
-          best .1 ) )
+          let held : Held bits x = rw (c .index-routes-i .is) (all-getD (Held bits) xs (i - 1) x lt all) in
+          let before = c .loop-i .inv .1 all in
+          let best = c .longer-best .ensures held (before .1) in (
+            best .0 ∙ ap (longer (meant bits x)) (before .0)
+                ∙ sym (longest-hit bits xs (bits (c .args .address .now)) i x (omega arith) lt (c .index-routes-i .is) (sym (c .if-matches .ensures tt))),
+            best .1,
+          ),
+    )
 
 pub loop-i-again : need.loop-i-again
 loop-i-again g c =
@@ -33,9 +35,11 @@ loop-i-again g c =
     let xs = c .args .routes .now in
     let i = c .loop-i .i in
     let x = c .index-routes-i .result in
-    let lt : i - 1 < length xs = omega (arith, c .loop-i .inv .0) in
-    ( omega (arith, c .loop-i .inv .0),
+    let lt : i - 1 < length xs = omega (arith, c .loop-i .inv .0) in (
+      omega (arith, c .loop-i .inv .0),
       λ all.
-        let before = c .loop-i .inv .1 all in
-        ( before .0 ∙ sym (longest-miss bits xs (bits (c .args .address .now)) i x (omega arith) lt (c .index-routes-i .is) (sym (c .if-matches .ensures tt))),
-          before .1 ) )
+          let before = c .loop-i .inv .1 all in (
+            before .0 ∙ sym (longest-miss bits xs (bits (c .args .address .now)) i x (omega arith) lt (c .index-routes-i .is) (sym (c .if-matches .ensures tt))),
+            before .1,
+          ),
+    )

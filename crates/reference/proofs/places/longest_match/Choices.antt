@@ -13,7 +13,7 @@ Inv-loop-i g l =
     let bits = g .A·Address .bits in
     (l .i ≤ length (l .routes))
     × (All (Held bits) (l .routes)
-       → (mapped (meant bits) (l .best) ≡ longest (drop (l .i) (map (meant bits) (l .routes))) (bits (l .address))) × MaybeHeld bits (l .best))
+    → (mapped (meant bits) (l .best) ≡ longest (drop (l .i) (map (meant bits) (l .routes))) (bits (l .address))) × MaybeHeld bits (l .best))
 
 abbrev pub μ-loop-i : given.MeasureT-loop-i
 μ-loop-i g l = l .i

@@ -21,8 +21,9 @@ returns-in-Equal g c =
     record {
       within = lt;
       cases = λ all up sound.
-        let held : Held bits x = all-getD (Held bits) xs i (c .index-routes-i .result) lt all in
-        found bits xs (prefix-bits bits p) i (c .loop-i .inv all sound) x lt is up (sym (c .in-Equal .ensures tt .sound sound (held .0))) }
+          let held : Held bits x = all-getD (Held bits) xs i (c .index-routes-i .result) lt all in
+          found bits xs (prefix-bits bits p) i (c .loop-i .inv all sound) x lt is up (sym (c .in-Equal .ensures tt .sound sound (held .0)));
+    }
 
 pub returns-in-Less : need.returns-in-Less
 returns-in-Less g c =
@@ -36,8 +37,9 @@ returns-in-Less g c =
     record {
       within = omega arith;
       cases = λ all up sound.
-        let held : Held bits x = all-getD (Held bits) xs i (c .index-routes-i .result) lt all in
-        missed bits xs (prefix-bits bits p) i (c .loop-i .inv all sound) x lt is up (sym (c .in-Less .ensures tt .sound sound (held .0))) }
+          let held : Held bits x = all-getD (Held bits) xs i (c .index-routes-i .result) lt all in
+          missed bits xs (prefix-bits bits p) i (c .loop-i .inv all sound) x lt is up (sym (c .in-Less .ensures tt .sound sound (held .0)));
+    }
 
 pub loop-i-again : need.loop-i-again
 loop-i-again g c all sound =
@@ -59,5 +61,6 @@ returns g c =
     record {
       within = omega arith;
       cases = λ all up sound.
-        let end : c .loop-i .i ≡ length xs = omega arith in
-        past bits xs (prefix-bits bits p) (length xs) (subst (λ i. Below (prefix-bits bits p) (take i (map (meant bits) xs))) end (c .loop-i .inv all sound)) (omega arith) (omega arith) }
+          let end : c .loop-i .i ≡ length xs = omega arith in
+          past bits xs (prefix-bits bits p) (length xs) (subst (λ i. Below (prefix-bits bits p) (take i (map (meant bits) xs))) end (c .loop-i .inv all sound)) (omega arith) (omega arith);
+    }

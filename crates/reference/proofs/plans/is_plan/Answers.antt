@@ -14,22 +14,23 @@ pub returns-then-is-empty : need.returns-then-is-empty
 returns-then-is-empty c =
     let ss = c .args .strides .now in
     plan-size (c .args .width) ss
-      (⊎-elim (λ e. inl (eqb-true (length ss) 0 (sym (c .is-empty .ensures) ∙ e))) (λ e. inr (e .1)) (c .then-is-empty .either))
+    (⊎-elim (λ e. inl (eqb-true (length ss) 0 (sym (c .is-empty .ensures) ∙ e))) (λ e. inr (e .1)) (c .then-is-empty .either))
 
 pub returns-then-stride-lt1 : need.returns-then-stride-lt1
 returns-then-stride-lt1 c =
     let ss = c .args .strides .now in
     plan-range (c .args .width) ss
-      (c .loop-i .inv .2 ∙ range-stop ss (c .loop-i .i) (c .loop-i-test .taken) (⊎-elim inl (λ e. inr (e .1)) (c .then-stride-lt1 .either)))
+    (c .loop-i .inv .2 ∙ range-stop ss (c .loop-i .i) (c .loop-i-test .taken) (⊎-elim inl (λ e. inr (e .1)) (c .then-stride-lt1 .either)))
 
 pub loop-i-again : need.loop-i-again
 loop-i-again c =
     let ss = c .args .strides .now in
     let i = c .loop-i .i in
-    let more = sum-more ss i (c .loop-i-test .taken) in
-    ( omega (arith, c .loop-i .inv .0),
+    let more = sum-more ss i (c .loop-i-test .taken) in (
+      omega (arith, c .loop-i .inv .0),
       omega (arith, c .loop-i .inv .1),
-      c .loop-i .inv .2 ∙ range-more ss i (c .loop-i-test .taken) (c .if-stride-lt1 .left) (c .if-stride-gt6 .left) )
+      c .loop-i .inv .2 ∙ range-more ss i (c .loop-i-test .taken) (c .if-stride-lt1 .left) (c .if-stride-gt6 .left),
+    )
 
 pub returns : need.returns
 returns c =

@@ -14,7 +14,8 @@ returns-in-Equal g c =
     let is : c .cmp .result ≡ by-address a l b m = sizes-is (c .cmp .result) l m (c .cmp .ensures) ∙ ap (λ o. thenBy o (sizes l m)) (c .in-Equal .ensures tt) in
     record {
       value = is;
-      sound = λ s t. is ∙ prefix-order a b l m (long (c .args .self .now .address) ∙ sym (long (c .args .other .now .address))) s t }
+      sound = λ s t. is ∙ prefix-order a b l m (long (c .args .self .now .address) ∙ sym (long (c .args .other .now .address))) s t;
+    }
 
 pub returns-in-rest : need.returns-in-rest
 returns-in-rest g c =
@@ -26,4 +27,5 @@ returns-in-rest g c =
     let is : c .compare .result ≡ by-address a l b m = first-decides (c .compare .result) (sizes l m) (c .in-rest .not-Equal) ∙ ap (λ o. thenBy o (sizes l m)) (c .compare .ensures) in
     record {
       value = is;
-      sound = λ s t. is ∙ prefix-order a b l m (long (c .args .self .now .address) ∙ sym (long (c .args .other .now .address))) s t }
+      sound = λ s t. is ∙ prefix-order a b l m (long (c .args .self .now .address) ∙ sym (long (c .args .other .now .address))) s t;
+    }

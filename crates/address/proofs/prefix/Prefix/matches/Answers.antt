@@ -12,20 +12,21 @@ returns-then-group g c =
     let lx = g .A·Address·met .long (c .args .self .now .address) in
     let ly = g .A·Address·met .long (c .args .address .now) in
     sym (begins-other xs ys (lx ∙ sym ly) (c .args .self .now .length)
-      (λ e. c .if-group .taken
-        (c .group .ensures
-         ∙ group-same xs ys (lx ∙ sym ly) (c .loop-place .place) (c .min-n .result) (omega arith) (omega arith) (c .args .self .now .length) (omega arith) e
-         ∙ sym (c .group-in-loop-place .ensures))))
+    (λ e. c .if-group .taken
+    (c .group .ensures
+    ∙ group-same xs ys (lx ∙ sym ly) (c .loop-place .place) (c .min-n .result) (omega arith) (omega arith) (c .args .self .now .length) (omega arith) e
+    ∙ sym (c .group-in-loop-place .ensures))))
 
 pub loop-place-again : need.loop-place-again
 loop-place-again g c =
     let xs = g .A·Address .bits (c .args .self .now .address) in
     let ys = g .A·Address .bits (c .args .address .now) in
     let lx = g .A·Address·met .long (c .args .self .now .address) in
-    let ly = g .A·Address·met .long (c .args .address .now) in
-    ( omega arith,
+    let ly = g .A·Address·met .long (c .args .address .now) in (
+      omega arith,
       more-same xs ys (lx ∙ sym ly) (c .loop-place .place) (c .min-n .result) (omega arith) (omega arith) (c .loop-place .inv .1)
-        (sym (c .group .ensures) ∙ c .if-group .left ∙ c .group-in-loop-place .ensures) )
+          (sym (c .group .ensures) ∙ c .if-group .left ∙ c .group-in-loop-place .ensures),
+    )
 
 pub returns : need.returns
 returns g c =
@@ -37,5 +38,5 @@ returns g c =
     let n = c .loop-place .place in
     let at : n ≡ min len (g .A·Address .width) = omega arith in
     sym (begins-same xs ys (lx ∙ sym ly) len
-      (take-more-than xs n (g .A·Address .width) len lx at ∙ c .loop-place .inv .1
-       ∙ sym (take-more-than ys n (g .A·Address .width) len ly at)))
+    (take-more-than xs n (g .A·Address .width) len lx at ∙ c .loop-place .inv .1
+    ∙ sym (take-more-than ys n (g .A·Address .width) len ly at)))

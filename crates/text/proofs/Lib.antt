@@ -1,0 +1,3 @@
+mod Longest
+mod Dots
+mod Slashes

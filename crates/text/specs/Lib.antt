@@ -1,0 +1,4 @@
+pub mod Dotted
+pub mod Numbers
+pub mod Slashed
+pub mod Stuck
