@@ -18,6 +18,13 @@ fn from_place(bits: u32, place: u32) -> u64
     (bits as u64) << 32 << place.min(32)
 }
 
+// The number of the first bits of a word, at most 6.
+fn leading(word: u64, len: u32) -> u8
+    ensures { λ r. ⌜ r ≡ word / 2 ^ 58 / 2 ^ (6 - min len 6) ⌝ }
+{
+    (word >> 58 >> (6 - len.min(6))) as u8
+}
+
 // The number with a group of its row of 32 bits written.
 fn written(v: u32, place: u32, len: u32, value: u8) -> u32
     ensures { λ r. ⌜ row 32 r ≡ write-group (row 32 v) place len value ⌝ }
@@ -50,7 +57,7 @@ pub impl Address for Ipv4 as Ipv4Address {
     }
 
     fn group(&self, place: u32, len: u32) -> u8 {
-        (from_place(self.bits, place) >> 58 >> (6 - len.min(6))) as u8
+        leading(from_place(self.bits, place), len)
     }
 
     fn with_group(self, place: u32, len: u32, value: u8) -> Self {

@@ -12,20 +12,22 @@ pub struct Ipv6 {
     pub low: u64,
 }
 
-// The two halves as one number.
-fn joined(a: Ipv6) -> u128
-    ensures { λ r. ⌜ r ≡ a .high * 2 ^ 64 + a .low ⌝ }
-{
-    ((a.high as u128) << 64) | a.low as u128
-}
+impl Ipv6 {
+    /// The two halves as one number.
+    pub fn number(self) -> u128
+        ensures { λ r. ⌜ r ≡ self .high * 2 ^ 64 + self .low ⌝ }
+    {
+        ((self.high as u128) << 64) | self.low as u128
+    }
 
-// A number in two halves.
-fn halved(v: u128) -> Ipv6
-    ensures { λ r. ⌜ r .high * 2 ^ 64 + r .low ≡ v ⌝ }
-{
-    Ipv6 {
-        high: (v >> 64) as u64,
-        low: (v % (1 << 64)) as u64,
+    /// The address whose halves form a number.
+    pub fn from_number(v: u128) -> Ipv6
+        ensures { λ r. ⌜ r .high * 2 ^ 64 + r .low ≡ v ⌝ }
+    {
+        Ipv6 {
+            high: (v >> 64) as u64,
+            low: (v % (1 << 64)) as u64,
+        }
     }
 }
 
@@ -34,6 +36,13 @@ fn from_place(v: u128, place: u32) -> u128
     ensures { λ r. ⌜ r ≡ top 128 128 (min place 128) v ⌝ }
 {
     if place < 128 { v << place } else { 0 }
+}
+
+// The number of the first bits of a word, at most 6.
+fn leading(word: u128, len: u32) -> u8
+    ensures { λ r. ⌜ r ≡ word / 2 ^ 122 / 2 ^ (6 - min len 6) ⌝ }
+{
+    (word >> 122 >> (6 - len.min(6))) as u8
 }
 
 // The number with a group of its row of 128 bits written.
@@ -68,18 +77,18 @@ pub impl Address for Ipv6 as Ipv6Address {
     }
 
     fn group(&self, place: u32, len: u32) -> u8 {
-        (from_place(joined(*self), place) >> 122 >> (6 - len.min(6))) as u8
+        leading(from_place(self.number(), place), len)
     }
 
     fn with_group(self, place: u32, len: u32, value: u8) -> Self {
-        halved(written(joined(self), place, len, value))
+        Ipv6::from_number(written(self.number(), place, len, value))
     }
 
     fn clear_from(&self, place: u32) -> bool {
-        from_place(joined(*self), place) == 0
+        from_place(self.number(), place) == 0
     }
 
     fn compare(&self, other: &Self) -> Ordering {
-        joined(*self).cmp(&joined(*other))
+        self.number().cmp(&other.number())
     }
 }

@@ -11,6 +11,8 @@ use crate::command::read_command;
 use crate::words::next_word;
 use address::ipv4::Ipv4;
 use address::ipv4::Ipv4Address;
+use address::ipv6::Ipv6;
+use address::ipv6::Ipv6Address;
 use address::prefix::Prefix;
 use faults::Fault;
 use reference::Failure;
@@ -20,6 +22,7 @@ use std::alloc::AllocError;
 use std::alloc::Global;
 use text::AddressText;
 use text::ipv4::Ipv4Text;
+use text::ipv6::Ipv6Text;
 use text::prefix::prefix_text;
 
 // what a line came to
@@ -217,6 +220,7 @@ fn answer<A: AddressText>(
 #[derive(Drop)]
 pub(crate) enum Session {
     Ipv4(RouteList<Ipv4>),
+    Ipv6(RouteList<Ipv6>),
 }
 
 impl Session {
@@ -224,7 +228,7 @@ impl Session {
     pub(crate) fn new(heap: Global, kind: Kind) -> Session {
         match kind {
             Kind::Ipv4 => Session::Ipv4(RouteList::new(heap, 0)),
-            Kind::Ipv6 => Session::Ipv4(RouteList::new(heap, 0)),
+            Kind::Ipv6 => Session::Ipv6(RouteList::new(heap, 0)),
         }
     }
 
@@ -232,6 +236,7 @@ impl Session {
     pub(crate) fn take(&mut self, heap: Global, line: &[u8]) -> Result<Reply, Trouble> {
         match self {
             Session::Ipv4(list) => answer(heap, list, line),
+            Session::Ipv6(list) => answer(heap, list, line),
         }
     }
 }

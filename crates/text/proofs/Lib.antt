@@ -1,3 +1,15 @@
 mod Longest
 mod Dots
 mod Slashes
+mod Groups
+mod Hexadecimal
+mod Runs
+mod Written
+mod Reading
+mod WordLists
+mod Sides
+mod Addresses
+mod HexWords
+mod WrittenParts
+mod Back
+mod Figures

@@ -11,6 +11,7 @@ use std::alloc::AllocError;
 use std::alloc::Global;
 
 pub mod ipv4;
+pub mod ipv6;
 mod number;
 pub mod prefix;
 

@@ -6,5 +6,5 @@ use Rattle.address.proofs.ipv6.Ipv6Address.compare.Needs as need
 
 pub returns : need.returns
 returns c =
-    order-row 128 (c .joined .result) (c .joined-2 .result) (c .cmp .result) (c .joined .ok) (c .joined-2 .ok) (c .cmp .ensures)
-    ∙ ap₂ (λ x y. order (row 128 x) (row 128 y)) (c .joined .ensures) (c .joined-2 .ensures)
+    order-row 128 (c .number .result) (c .number-2 .result) (c .cmp .result) (c .number .ok) (c .number-2 .ok) (c .cmp .ensures)
+    ∙ ap₂ (λ x y. order (row 128 x) (row 128 y)) (c .number .ensures) (c .number-2 .ensures)
