@@ -32,10 +32,6 @@ read-behind bs place len h =
     ∙ ap number (take-all (min len 6) (replicate (min len 6) false) (let d = length-replicate (min len 6) false in omega arith))
     ∙ number-zeros (min len 6)
 
-pub read-none : (bs : List Bool) (place len : ℕ) → min len 6 ≡ 0 → read-group bs place len ≡ 0
-unfolding read-group number
-read-none bs place len e = ap (λ i. number (take i (drop place bs ++ replicate (min len 6) false))) e
-
 pub write-behind : (bs : List Bool) (place len v : ℕ) → length bs ≤ place → write-group bs place len v ≡ bs
 unfolding write-group
 write-behind bs place len v h =

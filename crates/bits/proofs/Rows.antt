@@ -113,13 +113,6 @@ module _ {p k s head x rest v : ℕ} (h : Parts p k s head x rest v) where
       (row-split p k (v / 2 ^ s) ∙ ap (λ y. row p y ++ row k (v / 2 ^ s)) (sym (h .head-is)))
       (sym (row-mod s v) ∙ ap (row s) (sym (h .rest-is)))
 
-  pub written-lt : v < 2 ^ (p + k + s) → (head * 2 ^ k + x) * 2 ^ s + rest < 2 ^ (p + k + s)
-  written-lt l =
-      let hv : v / 2 ^ s < 2 ^ (p + k) = shr-lt (p + k) s l in
-      let hh : head < 2 ^ p = subst (λ r. r < 2 ^ p) (sym (h .head-is)) (shr-lt p k hv) in
-      subst (λ y. (head * 2 ^ k + x) * 2 ^ s + rest < y) (sym (pow-add 2 (p + k) s ∙ ap (λ y. y * 2 ^ s) (pow-add 2 p k)))
-      (digits-lt (digits-lt hh (h .small)) rest-lt)
-
   take-front : take p (row (p + k + s) v) ≡ row p head
   take-front =
       ap (take p) (whole-row ∙ append-assoc (row p head) (row k (v / 2 ^ s)) (row s rest))

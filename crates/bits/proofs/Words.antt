@@ -11,21 +11,11 @@ use lib.Dec.{eqb}
 use lib.Arith.{digits-lt}
 use lib.Bits.{bitOr}
 use lib.Pow.{pow-pos, pow-add, pow-mono, shr-lt, shr-shr}
-use Rattle.std.proofs.shelf.Bits.{or-shifted, shl-whole, one-shl, shr-le}
+use Rattle.std.proofs.shelf.Bits.{or-shifted, shl-whole, one-shl}
 use Rattle.std.proofs.shelf.Tests.{cases-lt}
 use Rattle.bits.specs.Rows.{number, row, read-group, write-group, clear, top}
-use Rattle.bits.proofs.Rows.{length-row, read-row, Parts, written-lt, write-row}
+use Rattle.bits.proofs.Rows.{length-row, read-row, Parts, write-row}
 use Rattle.bits.proofs.Groups.{clear-row, clear-behind, read-behind}
-
-pub top-lt : (D n x : ℕ) → 6 ≤ D → n ≤ 6 → x < 2 ^ D → x / 2 ^ (D - 6) / 2 ^ (6 - n) < 2 ^ 8
-top-lt D n x d h hx =
-    let e : 8 + (D - 6) ≡ D + 2 = omega arith in
-    let d : D ≤ D + 2 = omega arith in
-    let m : 2 ^ D ≤ 2 ^ (D + 2) = pow-mono d in
-    let l : x < 2 ^ (D + 2) = omega arith in
-    let a : x / 2 ^ (D - 6) < 2 ^ 8 = shr-lt 8 (D - 6) (subst (λ i. x < 2 ^ i) (sym e) l) in
-    let b : x / 2 ^ (D - 6) / 2 ^ (6 - n) ≤ x / 2 ^ (D - 6) = shr-le (x / 2 ^ (D - 6)) (6 - n) in
-    omega arith
 
 -- a group is read from the top of the word
 module _ (D w place p len n v : ℕ) (fits : w ≤ D) (six : 6 ≤ D) (hp : p ≡ min place w) (hn : n ≡ min len 6) where
@@ -109,13 +99,6 @@ module _ (D w p k s n v value len : ℕ) (hw : p + k + s ≡ w) (fits : w ≤ D)
 
   hv′ : v < 2 ^ (p + k + s)
   hv′ = subst (λ i. v < 2 ^ i) (sym hw) hv
-
-  pub write-word-lt : write-word D k s n v value < 2 ^ w
-  write-word-lt =
-      let x = low-word value n k in
-      let f : p + k + s ≤ D = omega arith in
-      subst (λ i. write-word D k s n v value < 2 ^ i) hw
-      (subst (λ y. y < 2 ^ (p + k + s)) (sym (packed D p k s v x f some hv′ low-lt)) (written-lt (parts D p k s v x f some hv′ low-lt) hv′))
 
   pub write-word-is : row w (write-word D k s n v value) ≡ write-group (row w v) p len value
   unfolding write-group

@@ -3,7 +3,7 @@ ghost use mathlib.Core.List.{_∷_, _++_};
 ghost use Rattle.std.specs.Of.String.{string-bytes};
 ghost use Rattle.std.specs.Vec.{made};
 ghost use Rattle.std.specs.Written.{decimal};
-ghost use Rattle.console.specs.Told.{refusal-told, route-told};
+ghost use Rattle.console.specs.Told.{refusal-told, route-told, inserted-told, deleted-told, hop-told};
 use faults::Fault;
 use reference::Route;
 use std::alloc::AllocError;
@@ -33,4 +33,40 @@ pub(crate) fn route_text<A: AddressText>(
     let hop = route.hop;
     let text = prefix_text(&prefix, heap)?;
     format!(heap, "{text} by hop {hop}")
+}
+
+// What an insert answered.
+pub(crate) fn inserted_text(
+    heap: Global,
+    command: &str,
+    hop: u16,
+    old: Option<u16>,
+) -> Result<String, AllocError>
+    ensures { λ r. ⌜ made r (λ s. string-bytes s ≡ inserted-told (now (command .entry)) hop old) ⌝ }
+{
+    match old {
+        None => format!(heap, "{command}: new, by hop {hop}"),
+        Some(before) => format!(heap, "{command}: by hop {hop} in place of {before}"),
+    }
+}
+
+// What a delete answered.
+pub(crate) fn deleted_text(heap: Global, command: &str, hop: u16) -> Result<String, AllocError>
+    ensures { λ r. ⌜ made r (λ s. string-bytes s ≡ deleted-told (now (command .entry)) hop) ⌝ }
+{
+    format!(heap, "{command}: was by hop {hop}")
+}
+
+// What an exact answered.
+pub(crate) fn hop_text(
+    heap: Global,
+    command: &str,
+    found: Option<u16>,
+) -> Result<String, AllocError>
+    ensures { λ r. ⌜ made r (λ s. string-bytes s ≡ hop-told (now (command .entry)) found) ⌝ }
+{
+    match found {
+        None => format!(heap, "{command}: no route"),
+        Some(hop) => format!(heap, "{command}: hop {hop}"),
+    }
 }

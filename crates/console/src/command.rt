@@ -136,49 +136,61 @@ fn strides(heap: Global, word: Word<'_>) -> Result<Vec<u8>, Trouble> {
     Ok(strides)
 }
 
-fn read_kind(line: &[u8], from: usize) -> Result<Kind, Trouble> {
+fn read_kind<A: Address>(line: &[u8], from: usize) -> Result<Command<A>, Trouble> {
     let word = wanted(line, from, KIND)?;
     ended(line, word.end, KIND)?;
     match word.bytes {
-        b"ipv4" => Ok(Kind::Ipv4),
-        b"ipv6" => Ok(Kind::Ipv6),
+        b"ipv4" => Ok(Command::Kind(Kind::Ipv4)),
+        b"ipv6" => Ok(Command::Kind(Kind::Ipv6)),
         _ => Err(Trouble::Expected(KIND, word.place)),
     }
 }
 
-fn read_open(heap: Global, line: &[u8], from: usize) -> Result<(usize, Vec<u8>), Trouble> {
+fn read_open<A: Address>(heap: Global, line: &[u8], from: usize) -> Result<Command<A>, Trouble> {
     let first = wanted(line, from, OPEN)?;
     let nodes = number(first, 262_144, OPEN)?;
     let second = wanted(line, first.end, OPEN)?;
     ended(line, second.end, OPEN)?;
-    Ok((nodes as usize, strides(heap, second)?))
+    Ok(Command::Open(nodes as usize, strides(heap, second)?))
 }
 
-// A prefix alone.
-fn read_one<A: AddressText>(
-    line: &[u8],
-    from: usize,
-    usage: &'static str,
-) -> Result<Prefix<A>, Trouble> {
-    let (prefix, end) = prefix::<A>(line, from, usage)?;
-    ended(line, end, usage)?;
-    Ok(prefix)
-}
-
-fn read_insert<A: AddressText>(line: &[u8], from: usize) -> Result<(Prefix<A>, u16), Trouble> {
+fn read_insert<A: AddressText>(line: &[u8], from: usize) -> Result<Command<A>, Trouble> {
     let (prefix, end) = prefix::<A>(line, from, INSERT)?;
     let word = wanted(line, end, INSERT)?;
     let hop = number(word, 65_535, INSERT)?;
     ended(line, word.end, INSERT)?;
-    Ok((prefix, hop as u16))
+    Ok(Command::Insert(prefix, hop as u16))
 }
 
-fn read_lookup<A: AddressText>(line: &[u8], from: usize) -> Result<A, Trouble> {
+fn read_lookup<A: AddressText>(line: &[u8], from: usize) -> Result<Command<A>, Trouble> {
     let word = wanted(line, from, LOOKUP)?;
     ended(line, word.end, LOOKUP)?;
     match A::read(word.bytes) {
-        Ok(address) => Ok(address),
+        Ok(address) => Ok(Command::Lookup(address)),
         Err(stop) => Err(Trouble::Expected(LOOKUP, word.place.saturating_add(stop.place))),
+    }
+}
+
+// the commands that take a prefix alone
+#[derive(Clone, Copy)]
+enum OfPrefix {
+    Delete,
+    Exact,
+    Next,
+}
+
+fn read_one<A: AddressText>(
+    line: &[u8],
+    from: usize,
+    command: OfPrefix,
+    usage: &'static str,
+) -> Result<Command<A>, Trouble> {
+    let (prefix, end) = prefix::<A>(line, from, usage)?;
+    ended(line, end, usage)?;
+    match command {
+        OfPrefix::Delete => Ok(Command::Delete(prefix)),
+        OfPrefix::Exact => Ok(Command::Exact(prefix)),
+        OfPrefix::Next => Ok(Command::Next(prefix)),
     }
 }
 
@@ -201,20 +213,14 @@ pub(crate) fn read_command<A: AddressText>(
 ) -> Result<Command<A>, Trouble> {
     let from = word.end;
     match word.bytes {
-        b"kind" => Ok(Command::Kind(read_kind(line, from)?)),
-        b"open" => {
-            let (nodes, strides) = read_open(heap, line, from)?;
-            Ok(Command::Open(nodes, strides))
-        }
-        b"insert" => {
-            let (prefix, hop) = read_insert(line, from)?;
-            Ok(Command::Insert(prefix, hop))
-        }
-        b"delete" => Ok(Command::Delete(read_one(line, from, DELETE)?)),
-        b"lookup" => Ok(Command::Lookup(read_lookup(line, from)?)),
-        b"exact" => Ok(Command::Exact(read_one(line, from, EXACT)?)),
+        b"kind" => read_kind(line, from),
+        b"open" => read_open(heap, line, from),
+        b"insert" => read_insert(line, from),
+        b"delete" => read_one(line, from, OfPrefix::Delete, DELETE),
+        b"lookup" => read_lookup(line, from),
+        b"exact" => read_one(line, from, OfPrefix::Exact, EXACT),
         b"first" => alone(line, from, "first", Command::First),
-        b"next" => Ok(Command::Next(read_one(line, from, NEXT)?)),
+        b"next" => read_one(line, from, OfPrefix::Next, NEXT),
         b"list" => alone(line, from, "list", Command::List),
         b"help" => alone(line, from, "help", Command::Help),
         _ => Err(Trouble::Expected(COMMANDS, word.place)),

@@ -1,4 +1,7 @@
 ghost use Rattle.reference.specs.Shown.{Keeps};
+use crate::answers::deleted_text;
+use crate::answers::hop_text;
+use crate::answers::inserted_text;
 use crate::answers::refusal_text;
 use crate::answers::route_text;
 use crate::command::Command;
@@ -40,6 +43,16 @@ pub(crate) enum Reply {
     Misread(&'static str, usize),
     // another kind of address from here on
     Switched(Kind),
+}
+
+// A command with its prefix.
+fn named<A: AddressText>(
+    heap: Global,
+    command: &str,
+    prefix: &Prefix<A>,
+) -> Result<String, AllocError> {
+    let name = prefix_text(prefix, heap)?;
+    format!(heap, "{command} {name}")
 }
 
 fn refused(heap: Global, what: &str, fault: Fault) -> Result<Reply, Trouble> {
@@ -96,8 +109,7 @@ fn insert<A: AddressText>(
 ) -> Result<Reply, Trouble>
     ensures { λ _. ⌜ (Keeps (A·Address .bits) (now (list .entry)) → Keeps (A·Address .bits) (now (list .exit))) ⌝ }
 {
-    let name = prefix_text(&prefix, heap)?;
-    let what = format!(heap, "insert {name}")?;
+    let what = named(heap, "insert", &prefix)?;
     match list.insert(prefix, hop) {
         Ok(None) => Ok(Reply::Answered(format!(heap, "{what}: new, by hop {hop}")?)),
         Ok(Some(old)) => Ok(Reply::Answered(
@@ -114,10 +126,9 @@ fn delete<A: AddressText>(
 ) -> Result<Reply, Trouble>
     ensures { λ _. ⌜ (Keeps (A·Address .bits) (now (list .entry)) → Keeps (A·Address .bits) (now (list .exit))) ⌝ }
 {
-    let name = prefix_text(&prefix, heap)?;
-    let what = format!(heap, "delete {name}")?;
+    let what = named(heap, "delete", &prefix)?;
     match list.delete(prefix) {
-        Ok(hop) => Ok(Reply::Answered(format!(heap, "{what}: was by hop {hop}")?)),
+        Ok(hop) => Ok(Reply::Answered(deleted_text(heap, what.as_str(), hop)?)),
         Err(fault) => refused(heap, what.as_str(), fault),
     }
 }
@@ -133,11 +144,9 @@ fn exact<A: AddressText>(
     list: &RouteList<A>,
     prefix: Prefix<A>,
 ) -> Result<Reply, Trouble> {
-    let name = prefix_text(&prefix, heap)?;
-    let what = format!(heap, "exact {name}")?;
+    let what = named(heap, "exact", &prefix)?;
     match list.exact(prefix) {
-        Ok(Some(hop)) => Ok(Reply::Answered(format!(heap, "{what}: hop {hop}")?)),
-        Ok(None) => Ok(Reply::Answered(format!(heap, "{what}: no route")?)),
+        Ok(found) => Ok(Reply::Answered(hop_text(heap, what.as_str(), found)?)),
         Err(fault) => refused(heap, what.as_str(), fault),
     }
 }
@@ -147,8 +156,7 @@ fn next<A: AddressText>(
     list: &RouteList<A>,
     prefix: Prefix<A>,
 ) -> Result<Reply, Trouble> {
-    let name = prefix_text(&prefix, heap)?;
-    let what = format!(heap, "next {name}")?;
+    let what = named(heap, "next", &prefix)?;
     found(heap, what.as_str(), list.next(prefix))
 }
 

@@ -1,9 +1,10 @@
 ghost use mathlib.Core.Path.{_≡_};
-ghost use mathlib.Core.Bool.{Bool, not};
-ghost use Prim.Native.Nat.{ℕ, _+_, _-_, _<_, _≤_};
+ghost use mathlib.Core.Bool.{not};
+ghost use Prim.Native.Nat.{ℕ, _<_, _≤_};
 ghost use lib.Dec.{leb};
-ghost use lib.ListN.{length, getD, take, drop};
-ghost use Rattle.std.specs.Slices.{found};
+ghost use lib.ListN.{length, getD};
+ghost use Rattle.std.specs.Options.{Cases};
+ghost use Rattle.console.specs.Lines.{Blank, WordAt};
 
 // a word of a line: the place of its first byte there, and the place behind it
 #[derive(Clone, Copy)]
@@ -26,9 +27,9 @@ fn skip(line: &[u8], from: usize, blanks: bool) -> usize
     place
 }
 
-// The next word from a place on, or none.
+// The next word from a place on, or none where only blanks stand there.
 pub(crate) fn next_word(line: &[u8], from: usize) -> Option<Word<'_>>
-    ensures { λ r. ⌜ found r (λ w. (from ≤ w .place) × (w .place < w .end) × (w .end ≤ length (now (line .entry))) × (w .bytes .now ≡ take (w .end - w .place) (drop (w .place) (now (line .entry))))) ⌝ }
+    ensures { λ r. ⌜ Cases r (Blank (now (line .entry)) from (length (now (line .entry)))) (λ w. WordAt (now (line .entry)) from (w .place) (w .end) (w .bytes .now)) ⌝ }
 {
     if from > line.len() {
         return None;

@@ -15,7 +15,9 @@ impl Dice {
     pub(crate) fn roll(&mut self, sides: u32) -> u32
         ensures { λ r. ⌜ (0 < sides → r < sides) ⌝ }
     {
-        self.state = self.state.wrapping_mul(6364136223846793005).wrapping_add(1442695040888963407);
+        self.state = self.state
+            .wrapping_mul(6364136223846793005)
+            .wrapping_add(1442695040888963407);
         if sides == 0 {
             return 0;
         }

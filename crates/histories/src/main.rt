@@ -20,7 +20,10 @@ fn tell(rt: &LibcRuntime, name: &str, tally: &Tally) -> Result<(), AnyError> {
     let differences = tally.differences;
     let sum = tally.sum;
     let refused = tally.refused;
-    println!(rt, "{name}: {calls} calls, {differences} differences, sum of the answers {sum}")?;
+    println!(
+        rt,
+        "{name}: {calls} calls, {differences} differences, sum of the answers {sum}"
+    )?;
     for number in 1..9usize {
         let count = refused[number];
         println!(rt, "  refused {number}: {count}")?;
@@ -32,7 +35,11 @@ fn run(rt: &LibcRuntime) -> Result<(), AnyError> {
     let heap = rt.alloc();
     tell(rt, "ipv4", &play::<Ipv4>(heap, Dice::new(1), 5, 20_000)?)?;
     tell(rt, "ipv6", &play::<Ipv6>(heap, Dice::new(2), 5, 20_000)?)?;
-    tell(rt, "ipv4 without nodes", &play::<Ipv4>(heap, Dice::new(3), 0, 2_000)?)
+    tell(
+        rt,
+        "ipv4 without nodes",
+        &play::<Ipv4>(heap, Dice::new(3), 0, 2_000)?,
+    )
 }
 
 fn main(rt: LibcRuntime) -> Result<(), AnyError> {

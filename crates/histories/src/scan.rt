@@ -86,7 +86,12 @@ impl Scan {
         None
     }
 
-    pub(crate) fn insert(&mut self, value: u128, length: u32, hop: u16) -> Result<Said, AllocError> {
+    pub(crate) fn insert(
+        &mut self,
+        value: u128,
+        length: u32,
+        hop: u16,
+    ) -> Result<Said, AllocError> {
         let number = self.refusal(value, length);
         if number != 0 {
             return Ok(Said::Refused(number));
@@ -153,11 +158,13 @@ impl Scan {
         let mut best: Option<Line> = None;
         for line in self.lines.iter() {
             let wanted = match above {
-                Some((value, length)) => line.value > value || (line.value == value && line.length > length),
+                Some((value, length)) => line.value > value
+                    || (line.value == value && line.length > length),
                 None => true,
             };
             let smaller = match best {
-                Some(found) => line.value < found.value || (line.value == found.value && line.length < found.length),
+                Some(found) => line.value < found.value
+                    || (line.value == found.value && line.length < found.length),
                 None => true,
             };
             if wanted && smaller {

@@ -1,14 +1,14 @@
+use crate::dice::Dice;
+use crate::scan::Line;
+use crate::scan::Said;
+use crate::scan::SaidPartialEq;
+use crate::scan::Scan;
 use address::Address;
 use address::ipv4::Ipv4;
 use address::ipv4::Ipv4Address;
 use address::ipv6::Ipv6;
 use address::ipv6::Ipv6Address;
 use address::prefix::Prefix;
-use crate::dice::Dice;
-use crate::scan::Line;
-use crate::scan::Said;
-use crate::scan::SaidPartialEq;
-use crate::scan::Scan;
 use faults::Fault;
 use reference::Failure;
 use reference::Route;
@@ -51,7 +51,30 @@ pub(crate) impl Numbered for Ipv6 as Ipv6Numbered {
     }
 
     fn plan() -> &'static [u8] {
-        &[3, 6, 6, 6, 6, 6, 6, 6, 6, 6, 6, 6, 6, 6, 6, 6, 6, 6, 6, 6, 6, 6]
+        &[
+            3,
+            6,
+            6,
+            6,
+            6,
+            6,
+            6,
+            6,
+            6,
+            6,
+            6,
+            6,
+            6,
+            6,
+            6,
+            6,
+            6,
+            6,
+            6,
+            6,
+            6,
+            6,
+        ]
     }
 }
 
@@ -120,7 +143,11 @@ fn prefix(dice: &mut Dice, width: u32) -> (u128, u32) {
 }
 
 // One call to both: what the sorted list says, and what the scan says.
-fn both<A: Numbered>(list: &mut RouteList<A>, scan: &mut Scan, dice: &mut Dice) -> Result<(Said, Said), AllocError> {
+fn both<A: Numbered>(
+    list: &mut RouteList<A>,
+    scan: &mut Scan,
+    dice: &mut Dice,
+) -> Result<(Said, Said), AllocError> {
     let call = dice.roll(200);
     let (value, length) = prefix(dice, A::bit_count());
     let address = A::from_value(value);
@@ -132,7 +159,10 @@ fn both<A: Numbered>(list: &mut RouteList<A>, scan: &mut Scan, dice: &mut Dice) 
         Ok((opened(list.open(strides))?, scan.open(strides)))
     } else if call < 90 {
         let hop = dice.roll(4200) as u16;
-        Ok((inserted(list.insert(prefix, hop))?, scan.insert(value, length, hop)?))
+        Ok((
+            inserted(list.insert(prefix, hop))?,
+            scan.insert(value, length, hop)?,
+        ))
     } else if call < 125 {
         Ok((hop_of(list.delete(prefix)), scan.delete(value, length)))
     } else if call < 160 {
@@ -156,13 +186,20 @@ fn code(said: Said) -> u64 {
         Said::Route(None) => 300,
         Said::Route(Some(line)) => {
             let folded = (line.value % (1 << 64)) as u64 ^ (line.value >> 64) as u64;
-            folded.wrapping_add(7 * line.length as u64).wrapping_add(13 * line.hop as u64)
+            folded
+                .wrapping_add(7 * line.length as u64)
+                .wrapping_add(13 * line.hop as u64)
         }
     }
 }
 
 // A history of so many calls on a list for so many nodes.
-pub(crate) fn play<A: Numbered>(heap: Global, mut dice: Dice, nodes: usize, calls: u32) -> Result<Tally, AllocError> {
+pub(crate) fn play<A: Numbered>(
+    heap: Global,
+    mut dice: Dice,
+    nodes: usize,
+    calls: u32,
+) -> Result<Tally, AllocError> {
     let mut list: RouteList<A> = RouteList::new(heap, nodes);
     let mut scan = Scan::new(heap, A::bit_count(), nodes);
     let mut tally = Tally {

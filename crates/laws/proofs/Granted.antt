@@ -20,6 +20,3 @@ module _ (W N : ℕ) (plan : List ℕ) (routes : Routes) (a : Bits) (l : ℕ) (s
 
   pub exact-granted : perform W N (holding plan routes) (exact a l) ≡ done (hop-is (find routes (prefix-of a l))) (holding plan routes)
   exact-granted = simp (short, clean)
-
-  pub next-granted : perform W N (holding plan routes) (next a l) ≡ done (route-is (above routes (prefix-of a l))) (holding plan routes)
-  next-granted = simp (short, clean)

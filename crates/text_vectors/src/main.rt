@@ -16,14 +16,20 @@ use text::ipv6::Ipv6Text;
 use text::prefix::prefix_text;
 use text::prefix::read_prefix;
 
-fn address<A: AddressText>(heap: Global, text: &[u8]) -> Result<Result<String, Unreadable>, AllocError> {
+fn address<A: AddressText>(
+    heap: Global,
+    text: &[u8],
+) -> Result<Result<String, Unreadable>, AllocError> {
     match A::read(text) {
         Ok(address) => Ok(Ok(address.text(heap)?)),
         Err(stop) => Ok(Err(stop)),
     }
 }
 
-fn prefix<A: AddressText>(heap: Global, text: &[u8]) -> Result<Result<String, Unreadable>, AllocError> {
+fn prefix<A: AddressText>(
+    heap: Global,
+    text: &[u8],
+) -> Result<Result<String, Unreadable>, AllocError> {
     match read_prefix::<A>(text) {
         Ok(prefix) => Ok(Ok(prefix_text(&prefix, heap)?)),
         Err(stop) => Ok(Err(stop)),
