@@ -1,7 +1,9 @@
 ghost use mathlib.Core.Path.{_≡_};
 ghost use mathlib.Core.Bool.{Bool, false};
 ghost use Prim.Native.Nat.{ℕ, _+_, _-_, _*_, _/_, _%_, _^_, _<_, _≤_, min};
-ghost use Rattle.bits.specs.Rows.{row, write-group, top};
+ghost use lib.ListN.{drop};
+ghost use Rattle.bits.specs.Rows.{row, write-group, clear, top};
+ghost use Rattle.bits.specs.Order.{order};
 use crate::Address;
 use std::cmp::Ordering;
 
@@ -41,6 +43,20 @@ fn written(v: u32, place: u32, len: u32, value: u8) -> u32
     (((head << kept) | low as u32) << behind) | rest
 }
 
+// Whether the bits are all 0 from a place on.
+fn is_clear(bits: u32, place: u32) -> bool
+    ensures { λ r. ⌜ r ≡ clear (drop place (row 32 bits)) ⌝ }
+{
+    from_place(bits, place) == 0
+}
+
+// Two rows of bits by the first that differs.
+fn ordered(a: u32, b: u32) -> Ordering
+    ensures { λ r. ⌜ r ≡ order (row 32 a) (row 32 b) ⌝ }
+{
+    a.cmp(&b)
+}
+
 pub impl Address for Ipv4 as Ipv4Address {
     const WIDTH: u32 = 32;
 
@@ -67,12 +83,10 @@ pub impl Address for Ipv4 as Ipv4Address {
     }
 
     fn clear_from(&self, place: u32) -> bool {
-        from_place(self.bits, place) == 0
+        is_clear(self.bits, place)
     }
 
     fn compare(&self, other: &Self) -> Ordering {
-        let a = self.bits;
-        let b = other.bits;
-        a.cmp(&b)
+        ordered(self.bits, other.bits)
     }
 }

@@ -1,7 +1,9 @@
 ghost use mathlib.Core.Path.{_≡_};
 ghost use mathlib.Core.Bool.{Bool, false};
 ghost use Prim.Native.Nat.{ℕ, _+_, _-_, _*_, _/_, _%_, _^_, _<_, _≤_, min};
-ghost use Rattle.bits.specs.Rows.{row, write-group, top};
+ghost use lib.ListN.{drop};
+ghost use Rattle.bits.specs.Rows.{row, write-group, clear, top};
+ghost use Rattle.bits.specs.Order.{order};
 use crate::Address;
 use std::cmp::Ordering;
 
@@ -17,7 +19,7 @@ impl Ipv6 {
     pub fn number(self) -> u128
         ensures { λ r. ⌜ r ≡ self .high * 2 ^ 64 + self .low ⌝ }
     {
-        ((self.high as u128) << 64) | self.low as u128
+        ((self.high as u128) << 64) + self.low as u128
     }
 
     /// The address whose halves form a number.
@@ -61,6 +63,20 @@ fn written(v: u128, place: u32, len: u32, value: u8) -> u128
     (((head << kept) | low as u128) << behind) | rest
 }
 
+// Whether the bits are all 0 from a place on.
+fn is_clear(v: u128, place: u32) -> bool
+    ensures { λ r. ⌜ r ≡ clear (drop place (row 128 v)) ⌝ }
+{
+    from_place(v, place) == 0
+}
+
+// Two rows of bits by the first that differs.
+fn ordered(a: u128, b: u128) -> Ordering
+    ensures { λ r. ⌜ r ≡ order (row 128 a) (row 128 b) ⌝ }
+{
+    a.cmp(&b)
+}
+
 pub impl Address for Ipv6 as Ipv6Address {
     const WIDTH: u32 = 128;
 
@@ -85,10 +101,10 @@ pub impl Address for Ipv6 as Ipv6Address {
     }
 
     fn clear_from(&self, place: u32) -> bool {
-        from_place(self.number(), place) == 0
+        is_clear(self.number(), place)
     }
 
     fn compare(&self, other: &Self) -> Ordering {
-        self.number().cmp(&other.number())
+        ordered(self.number(), other.number())
     }
 }

@@ -3,25 +3,25 @@ use Prim.Native.Nat.{ℕ, _+_, _≤_, min}
 use native.Mathlib.Omega.{arith}
 use lib.ListN.{length, take}
 use Rattle.bits.proofs.Prefixes.{more-same, group-same, take-more-than, begins-same, begins-other}
-use Rattle.address.proofs.prefix.Prefix.matches.Needs as need
+use Rattle.address.proofs.prefix.front_begins.Needs as need
 
 pub returns-then-group : need.returns-then-group
 returns-then-group g c =
-    let xs = g .A·Address .bits (c .args .self .now .address) in
+    let xs = g .A·Address .bits (c .args .front .now) in
     let ys = g .A·Address .bits (c .args .address .now) in
-    let lx = g .A·Address·met .long (c .args .self .now .address) in
+    let lx = g .A·Address·met .long (c .args .front .now) in
     let ly = g .A·Address·met .long (c .args .address .now) in
-    sym (begins-other xs ys (lx ∙ sym ly) (c .args .self .now .length)
+    sym (begins-other xs ys (lx ∙ sym ly) (c .args .len)
     (λ e. c .if-group .taken
     (c .group .ensures
-    ∙ group-same xs ys (lx ∙ sym ly) (c .loop-place .place) (c .min-n .result) (omega arith) (omega arith) (c .args .self .now .length) (omega arith) e
+    ∙ group-same xs ys (lx ∙ sym ly) (c .loop-place .place) (c .min-n .result) (omega arith) (omega arith) (c .args .len) (omega arith) e
     ∙ sym (c .group-in-loop-place .ensures))))
 
 pub loop-place-again : need.loop-place-again
 loop-place-again g c =
-    let xs = g .A·Address .bits (c .args .self .now .address) in
+    let xs = g .A·Address .bits (c .args .front .now) in
     let ys = g .A·Address .bits (c .args .address .now) in
-    let lx = g .A·Address·met .long (c .args .self .now .address) in
+    let lx = g .A·Address·met .long (c .args .front .now) in
     let ly = g .A·Address·met .long (c .args .address .now) in (
       omega arith,
       more-same xs ys (lx ∙ sym ly) (c .loop-place .place) (c .min-n .result) (omega arith) (omega arith) (c .loop-place .inv .1)
@@ -30,11 +30,11 @@ loop-place-again g c =
 
 pub returns : need.returns
 returns g c =
-    let xs = g .A·Address .bits (c .args .self .now .address) in
+    let xs = g .A·Address .bits (c .args .front .now) in
     let ys = g .A·Address .bits (c .args .address .now) in
-    let lx = g .A·Address·met .long (c .args .self .now .address) in
+    let lx = g .A·Address·met .long (c .args .front .now) in
     let ly = g .A·Address·met .long (c .args .address .now) in
-    let len = c .args .self .now .length in
+    let len = c .args .len in
     let n = c .loop-place .place in
     let at : n ≡ min len (g .A·Address .width) = omega arith in
     sym (begins-same xs ys (lx ∙ sym ly) len
