@@ -1,4 +1,8 @@
-ghost use Rattle.reference.specs.Shown.{Keeps};
+ghost use mathlib.Core.Path.{_≡_};
+ghost use Rattle.std.specs.Vec.{made};
+ghost use Rattle.model.specs.Calls.{insert as insert-call, delete as delete-call};
+ghost use Rattle.reference.specs.Shown.{Keeps, shown, left-of};
+ghost use Rattle.console.specs.Commands.{opened-for, commanded, IsRefusal};
 use crate::answers::deleted_text;
 use crate::answers::hop_text;
 use crate::answers::inserted_text;
@@ -60,7 +64,10 @@ fn refused(heap: Global, what: &str, fault: Fault) -> Result<Reply, Trouble> {
     Ok(Reply::Refused(format!(heap, "{what}: {why}")?))
 }
 
-fn failed(heap: Global, what: &str, failure: Failure) -> Result<Reply, Trouble> {
+// A refusal in words; want of memory goes on up.
+fn failed(heap: Global, what: &str, failure: Failure) -> Result<Reply, Trouble>
+    ensures { λ r. ⌜ made r (λ _. IsRefusal failure) ⌝ }
+{
     match failure {
         Failure::Refused(fault) => refused(heap, what, fault),
         Failure::NoMemory => Err(Trouble::NoMemory),
@@ -88,7 +95,8 @@ fn open<A: AddressText>(
     nodes: usize,
     strides: &[u8],
 ) -> Result<Reply, Trouble>
-    ensures { λ _. ⌜ (Keeps (A·Address .bits) (now (list .entry)) → Keeps (A·Address .bits) (now (list .exit))) ⌝ }
+    ensures keeps { λ _. ⌜ (Keeps (A·Address .bits) (now (list .entry)) → Keeps (A·Address .bits) (now (list .exit))) ⌝ }
+    ensures after { λ r. ⌜ made r (λ _. Keeps (A·Address .bits) (now (list .entry)) → shown (A·Address .bits) (now (list .exit)) ≡ opened-for (A·Address .bits) (A·Address .width) nodes (now (strides .entry)) (now (list .entry))) ⌝ }
 {
     let mut fresh = RouteList::new(heap, nodes);
     match fresh.open(strides) {
@@ -107,7 +115,8 @@ fn insert<A: AddressText>(
     prefix: Prefix<A>,
     hop: u16,
 ) -> Result<Reply, Trouble>
-    ensures { λ _. ⌜ (Keeps (A·Address .bits) (now (list .entry)) → Keeps (A·Address .bits) (now (list .exit))) ⌝ }
+    ensures keeps { λ _. ⌜ (Keeps (A·Address .bits) (now (list .entry)) → Keeps (A·Address .bits) (now (list .exit))) ⌝ }
+    ensures after { λ r. ⌜ made r (λ _. Keeps (A·Address .bits) (now (list .entry)) → shown (A·Address .bits) (now (list .exit)) ≡ left-of (A·Address .bits) (A·Address .width) (now (list .entry)) (insert-call (A·Address .bits (prefix .address)) (prefix .length) hop)) ⌝ }
 {
     let what = named(heap, "insert", &prefix)?;
     match list.insert(prefix, hop) {
@@ -124,7 +133,8 @@ fn delete<A: AddressText>(
     list: &mut RouteList<A>,
     prefix: Prefix<A>,
 ) -> Result<Reply, Trouble>
-    ensures { λ _. ⌜ (Keeps (A·Address .bits) (now (list .entry)) → Keeps (A·Address .bits) (now (list .exit))) ⌝ }
+    ensures keeps { λ _. ⌜ (Keeps (A·Address .bits) (now (list .entry)) → Keeps (A·Address .bits) (now (list .exit))) ⌝ }
+    ensures after { λ r. ⌜ made r (λ _. Keeps (A·Address .bits) (now (list .entry)) → shown (A·Address .bits) (now (list .exit)) ≡ left-of (A·Address .bits) (A·Address .width) (now (list .entry)) (delete-call (A·Address .bits (prefix .address)) (prefix .length))) ⌝ }
 {
     let what = named(heap, "delete", &prefix)?;
     match list.delete(prefix) {
@@ -187,7 +197,8 @@ fn perform<A: AddressText>(
     list: &mut RouteList<A>,
     command: Command<A>,
 ) -> Result<Reply, Trouble>
-    ensures { λ _. ⌜ (Keeps (A·Address .bits) (now (list .entry)) → Keeps (A·Address .bits) (now (list .exit))) ⌝ }
+    ensures keeps { λ _. ⌜ (Keeps (A·Address .bits) (now (list .entry)) → Keeps (A·Address .bits) (now (list .exit))) ⌝ }
+    ensures after { λ r. ⌜ made r (λ _. Keeps (A·Address .bits) (now (list .entry)) → shown (A·Address .bits) (now (list .exit)) ≡ commanded (A·Address .bits) (A·Address .width) command (now (list .entry))) ⌝ }
 {
     match command {
         Command::Kind(kind) => Ok(Reply::Switched(kind)),
