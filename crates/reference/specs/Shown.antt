@@ -51,6 +51,7 @@ module _ {X : Type 0} (bits : X → Bits) where
   abbrev pub Held : Entry X → Type 0
   Held r = Sound (bits (r .prefix .address)) (r .prefix .length) × (r .hop ≤ last-hop)
 
+  -- the same of an entry that may be none: where an answer is such, no bit stands behind its length
   abbrev pub MaybeHeld : Option (Entry X) → Type 0
   MaybeHeld None = Unit {0}
   MaybeHeld (Some r) = Held r

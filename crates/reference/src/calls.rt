@@ -4,12 +4,13 @@ ghost use Prim.Native.Nat.{_≤_};
 ghost use lib.ListN.{drop};
 ghost use Rattle.std.specs.Of.Vec.{vec-len, vec-cap};
 ghost use Rattle.std.specs.Options.{mapped};
+ghost use Rattle.std.specs.Vec.{made};
 ghost use Rattle.std.specs.declared.result.Result.the-variants.{Err};
 ghost use Rattle.model.specs.Outcomes.{outcome};
 ghost use Rattle.model.specs.Routes.{smallest};
 ghost use Rattle.model.specs.Calls.{Call, shut, open-with, insert, delete, lookup, exact, first, next, opened, inserted, deleted, matched, hop-is, route-is};
 ghost use Rattle.reference.specs.declared.Failure.the-variants.{NoMemory};
-ghost use Rattle.reference.specs.Shown.{shown, meant, answer-of, left-of, Keeps, Says, leaves, admitted, routes-of};
+ghost use Rattle.reference.specs.Shown.{shown, meant, answer-of, left-of, Keeps, Says, leaves, admitted, routes-of, MaybeHeld};
 use crate::Failure;
 use crate::FailureFromAlloc;
 use crate::FailureFromFault;
@@ -65,7 +66,8 @@ impl<A: Address> RouteList<A> {
 
     // The first route from an index on, or none.
     fn first_from(&self, index: usize) -> Option<Route<A>>
-        ensures { λ r. ⌜ mapped (meant (A·Address .bits)) r ≡ smallest (drop index (routes-of (A·Address .bits) (now (self .entry)))) ⌝ }
+        ensures value { λ r. ⌜ mapped (meant (A·Address .bits)) r ≡ smallest (drop index (routes-of (A·Address .bits) (now (self .entry)))) ⌝ }
+        ensures sound { λ r. ⌜ (Keeps (A·Address .bits) (now (self .entry)) → MaybeHeld (A·Address .bits) r) ⌝ }
     {
         if index < self.routes.len() {
             Some(self.routes[index])
@@ -138,7 +140,8 @@ impl<A: Address> RouteList<A> {
 
     /// The route with the longest prefix that matches the address, or none.
     pub fn lookup(&self, address: A) -> Result<Option<Route<A>>, Fault>
-        ensures { λ r. ⌜ (Keeps (A·Address .bits) (now (self .entry)) → outcome (λ o. matched (mapped (meant (A·Address .bits)) o)) r ≡ answer-of (A·Address .bits) (A·Address .width) (now (self .entry)) (lookup (A·Address .bits address))) ⌝ }
+        ensures answer { λ r. ⌜ (Keeps (A·Address .bits) (now (self .entry)) → outcome (λ o. matched (mapped (meant (A·Address .bits)) o)) r ≡ answer-of (A·Address .bits) (A·Address .width) (now (self .entry)) (lookup (A·Address .bits address))) ⌝ }
+        ensures sound { λ r. ⌜ (Keeps (A·Address .bits) (now (self .entry)) → made r (MaybeHeld (A·Address .bits))) ⌝ }
     {
         if !self.opened {
             return Err(Fault::of_table(Refusal::Shut));
@@ -162,7 +165,8 @@ impl<A: Address> RouteList<A> {
 
     /// The smallest route, or none.
     pub fn first(&self) -> Result<Option<Route<A>>, Fault>
-        ensures { λ r. ⌜ (Keeps (A·Address .bits) (now (self .entry)) → outcome (λ o. route-is (mapped (meant (A·Address .bits)) o)) r ≡ answer-of (A·Address .bits) (A·Address .width) (now (self .entry)) (first)) ⌝ }
+        ensures answer { λ r. ⌜ (Keeps (A·Address .bits) (now (self .entry)) → outcome (λ o. route-is (mapped (meant (A·Address .bits)) o)) r ≡ answer-of (A·Address .bits) (A·Address .width) (now (self .entry)) (first)) ⌝ }
+        ensures sound { λ r. ⌜ (Keeps (A·Address .bits) (now (self .entry)) → made r (MaybeHeld (A·Address .bits))) ⌝ }
     {
         if !self.opened {
             return Err(Fault::of_table(Refusal::Shut));
@@ -172,7 +176,8 @@ impl<A: Address> RouteList<A> {
 
     /// The smallest route above a prefix, or none.
     pub fn next(&self, prefix: Prefix<A>) -> Result<Option<Route<A>>, Fault>
-        ensures { λ r. ⌜ (Keeps (A·Address .bits) (now (self .entry)) → outcome (λ o. route-is (mapped (meant (A·Address .bits)) o)) r ≡ answer-of (A·Address .bits) (A·Address .width) (now (self .entry)) (next (A·Address .bits (prefix .address)) (prefix .length))) ⌝ }
+        ensures answer { λ r. ⌜ (Keeps (A·Address .bits) (now (self .entry)) → outcome (λ o. route-is (mapped (meant (A·Address .bits)) o)) r ≡ answer-of (A·Address .bits) (A·Address .width) (now (self .entry)) (next (A·Address .bits (prefix .address)) (prefix .length))) ⌝ }
+        ensures sound { λ r. ⌜ (Keeps (A·Address .bits) (now (self .entry)) → made r (MaybeHeld (A·Address .bits))) ⌝ }
     {
         self.admit(&prefix)?;
         match place(self.routes.as_slice(), &prefix) {

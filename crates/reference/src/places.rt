@@ -46,7 +46,8 @@ fn longer<A: Address>(route: Route<A>, other: Option<Route<A>>) -> Option<Route<
 
 // The route with the longest prefix that matches the address.
 pub(crate) fn longest_match<A: Address>(routes: &[Route<A>], address: &A) -> Option<Route<A>>
-    ensures { λ r. ⌜ (All (Held (A·Address .bits)) (now (routes .entry)) → mapped (meant (A·Address .bits)) r ≡ longest (map (meant (A·Address .bits)) (now (routes .entry))) (A·Address .bits (now (address .entry)))) ⌝ }
+    ensures value { λ r. ⌜ (All (Held (A·Address .bits)) (now (routes .entry)) → mapped (meant (A·Address .bits)) r ≡ longest (map (meant (A·Address .bits)) (now (routes .entry))) (A·Address .bits (now (address .entry)))) ⌝ }
+    ensures sound { λ r. ⌜ (All (Held (A·Address .bits)) (now (routes .entry)) → MaybeHeld (A·Address .bits) r) ⌝ }
 {
     let mut best: Option<Route<A>> = None;
     let mut i = routes.len();

@@ -13,5 +13,6 @@ returns g c =
     record {
       keeps = c .in-Err .ensures tt .keeps;
       after = made-so (c .failed .result) (c .failed .ensures)
-        (λ x i k. refusal-leaves (Option ℕ) (c .in-Err .failure) (shown bits (c .insert .last .self)) (shown bits t)
-          (left-of bits (g .A·Address .width) t (insert (bits (p .address)) (p .length) (c .args .hop))) i (c .in-Err .ensures tt .after k)) }
+          (λ x i k. refusal-leaves (Option ℕ) (c .in-Err .failure) (shown bits (c .insert .last .self)) (shown bits t)
+          (left-of bits (g .A·Address .width) t (insert (bits (p .address)) (p .length) (c .args .hop))) i (c .in-Err .ensures tt .after k));
+    }
