@@ -1,16 +1,16 @@
 -- What a group that was written reads as, and rows of zeros.
-use mathlib.Core.Path.{_≡_, refl, sym, ap, ap₂, _∙_, subst}
-use mathlib.Core.List.{List, [], _∷_, _++_, append-assoc, append-nil}
+use mathlib.Core.Path.{_≡_, refl, sym, ap, ap₂, _∙_}
+use mathlib.Core.List.{List, [], _∷_, _++_, append-assoc}
 use mathlib.Core.Bool.{Bool, true, false}
-use Prim.Native.Nat.{ℕ, zero, suc, _+_, _-_, _*_, _/_, _%_, _^_, _≤_, _<_, min}
+use Prim.Native.Nat.{ℕ, zero, suc, _+_, _-_, _*_, _%_, _^_, _≤_, _<_, min}
 use native.Mathlib.Nat.{zero-mod, add-zero, zero-mul, suc-mul, add-suc, one-mul, mul-mod-left}
 use native.Mathlib.Omega.{arith}
 use lib.ListN.{length, take, drop, replicate, length-append, length-replicate, length-drop, length-take, take-append-drop}
-use lib.Seq.{take-at, drop-at, take-all, take-append-le, drop-nil}
+use lib.Seq.{take-at, drop-at, take-all, take-append-le}
 use lib.Dec.{eqb, eqb·suc-zero}
 use lib.Pow.{pow-pos, mod-pow-add, shl-shr}
 use Rattle.std.proofs.shelf.Lists.{drop-all, length-take-le}
-use Rattle.bits.specs.Rows.{bit, number, row, read-group, write-group, clear}
+use Rattle.bits.specs.Rows.{number, row, read-group, write-group, clear}
 use Rattle.bits.proofs.Rows.{length-row, number-row, row-zero, drop-row}
 
 -- inside the row no zeros are added

@@ -1,15 +1,15 @@
 -- The order of rows is strict and total, and of rows of one length it is that of the numbers that they spell.
-use mathlib.Core.Path.{_≡_, refl, sym, ap, ap₂, _∙_, subst}
+use mathlib.Core.Path.{_≡_, refl, sym, ap, _∙_, subst}
 use mathlib.Core.List.{List, [], _∷_, _++_}
 use mathlib.Core.Bool.{Bool, true, false}
-use Prim.Native.Nat.{ℕ, zero, suc, _+_, _-_, _*_, _/_, _%_, _^_, _≤_, _<_}
+use Prim.Native.Nat.{ℕ, _+_, _-_, _*_, _^_, _<_}
 use native.Mathlib.Nat.{zero-mul, one-mul, mod-eq-of-lt, pow-suc}
 use native.Mathlib.Omega.{arith}
-use lib.ListN.{length, take, drop}
+use lib.ListN.{length}
 use Rattle.std.specs.declared.cmp.Ordering.{Ordering}
 use Rattle.std.specs.declared.cmp.Ordering.the-variants.{Less, Equal, Greater}
 use Rattle.std.specs.Orderings.{Ranked}
-use Rattle.bits.specs.Rows.{Bits, bit, number, row}
+use Rattle.bits.specs.Rows.{Bits, number, row}
 use Rattle.bits.specs.Order.{order, flipped, same}
 use Rattle.bits.proofs.Rows.{length-row, number-row}
 

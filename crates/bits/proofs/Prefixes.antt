@@ -2,11 +2,10 @@
 use mathlib.Core.Path.{_≡_, refl, sym, ap, ap₂, _∙_, subst}
 use mathlib.Core.List.{List, [], _∷_, _++_}
 use mathlib.Core.Bool.{Bool, true, false}
-use Prim.Native.Nat.{ℕ, zero, suc, _+_, _-_, _*_, _/_, _%_, _^_, _≤_, _<_, min}
-use native.Mathlib.Nat.{le-of-suc-le-suc}
+use Prim.Native.Nat.{ℕ, zero, suc, _+_, _-_, _*_, _%_, _^_, _≤_, _<_, min}
 use native.Mathlib.Omega.{arith}
 use lib.ListN.{length, take, drop, length-take, length-drop}
-use lib.Seq.{take-all, take-take, take-add, take-append-le}
+use lib.Seq.{take-all, take-take, take-add}
 use lib.Dec.{eqb}
 use mathlib.Core.Logic.{_⊎_, inl, inr, ⊎-elim}
 use Rattle.std.proofs.shelf.Tests.{cases-lt}
@@ -19,8 +18,7 @@ use Rattle.bits.specs.Rows.{Bits, bit, number, row, read-group, clear}
 use Rattle.bits.specs.Order.{order, begins, sizes, by-address, Sound}
 use Rattle.bits.proofs.Rows.{row-mod}
 use Rattle.bits.proofs.Groups.{read-inside}
-use lib.Pow.{pow-mono}
-use Rattle.bits.proofs.Orders.{number-lt, Ranks, same-rank, Decided, holds, fails, decided}
+use Rattle.bits.proofs.Orders.{number-lt, Ranks, same-rank, holds, fails, decided}
 
 bit-back : (b : Bool) → eqb (bit b % 2) 1 ≡ b
 bit-back true = refl

@@ -1,19 +1,18 @@
 -- Laws of rows and of the numbers that they spell.
 use mathlib.Core.Path.{_≡_, refl, sym, ap, ap₂, _∙_, subst}
-use mathlib.Core.List.{List, [], _∷_, _++_, append-assoc, append-nil}
-use mathlib.Core.Bool.{Bool, true, false}
+use mathlib.Core.List.{[], _∷_, _++_, append-assoc, append-nil}
+use mathlib.Core.Bool.{false}
 use mathlib.Core.Logic.{_⊎_, inl, inr}
-use Prim.Native.Nat.{ℕ, zero, suc, _+_, _-_, _*_, _/_, _%_, _^_, _≤_, _<_, min}
-use native.Mathlib.Nat.{mul-right-comm, div-one, zero-add, suc-add, add-comm, add-zero, mod-lt, mod-mod, mod-one, zero-div, zero-mod, mul-mod-left, mod-eq-of-lt, mul-div-mul-right, mul-assoc, zero-mul, one-mul, add-assoc, pow-suc}
+use Prim.Native.Nat.{ℕ, zero, suc, _+_, _-_, _*_, _/_, _%_, _^_, _<_}
+use native.Mathlib.Nat.{mul-right-comm, div-one, zero-add, suc-add, add-comm, mod-lt, mod-mod, mod-one, zero-div, mul-mod-left, mul-div-mul-right}
 use native.Mathlib.Numerals.{one-add}
 use native.Mathlib.Omega.{arith}
-use lib.ListN.{length, take, drop, replicate, length-append, length-replicate, length-drop}
-use lib.Seq.{take-at, drop-at, take-all, take-append-le, take-append-add}
+use lib.ListN.{length, take, drop, replicate, length-append, length-drop}
+use lib.Seq.{take-at, drop-at, take-all, take-append-add}
 use Rattle.std.proofs.shelf.Lists.{drop-all}
 use lib.Dec.{eqb}
-use lib.Arith.{digits-lt}
-use lib.Pow.{shr-lt, high, low, pow-pos, pow-add, shr-shr, shl-shr, mod-pow-add, mod-mod-pow, field}
-use Rattle.bits.specs.Rows.{bit, number, row, read-group, write-group, clear}
+use lib.Pow.{high, low, pow-pos, pow-add, shr-shr, shl-shr, mod-pow-add, mod-mod-pow, field}
+use Rattle.bits.specs.Rows.{bit, number, row}
 
 digit : (m : ℕ) → m < 2 → bit (eqb m 1) ≡ m
 digit zero h = refl

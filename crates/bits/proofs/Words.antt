@@ -1,16 +1,16 @@
 -- Shifts in a word of D bits, as reads and writes of a row of w bits.
 use mathlib.Core.Path.{_≡_, refl, sym, ap, ap₂, _∙_, subst}
-use mathlib.Core.Logic.{_⊎_, inl, inr, ⊎-elim}
-use mathlib.Core.Bool.{Bool, false}
+use mathlib.Core.Logic.{_⊎_, ⊎-elim}
+use mathlib.Core.Bool.{false}
 use mathlib.Core.List.{_++_}
-use Prim.Native.Nat.{ℕ, zero, suc, _+_, _-_, _*_, _/_, _%_, _^_, _≤_, _<_, min}
+use Prim.Native.Nat.{ℕ, _+_, _-_, _*_, _/_, _%_, _^_, _≤_, _<_, min}
 use native.Mathlib.Nat.{mod-lt, mul-assoc}
 use native.Mathlib.Omega.{arith}
 use lib.ListN.{length, take, drop, replicate}
 use lib.Dec.{eqb}
 use lib.Arith.{digits-lt}
 use lib.Bits.{bitOr}
-use lib.Pow.{pow-pos, pow-add, pow-mono, shr-lt, shr-shr}
+use lib.Pow.{pow-pos, pow-add, shr-lt, shr-shr}
 use Rattle.std.proofs.shelf.Bits.{or-shifted, shl-whole, one-shl}
 use Rattle.std.proofs.shelf.Tests.{cases-lt}
 use Rattle.bits.specs.Rows.{number, row, read-group, write-group, clear, top}

@@ -6,7 +6,6 @@ mod summary;
 mod words;
 
 use command::Kind;
-use command::Trouble;
 use session::Reply;
 use session::Session;
 use std::error::AnyError;

@@ -120,10 +120,7 @@ fn insert<A: AddressText>(
 {
     let what = named(heap, "insert", &prefix)?;
     match list.insert(prefix, hop) {
-        Ok(None) => Ok(Reply::Answered(format!(heap, "{what}: new, by hop {hop}")?)),
-        Ok(Some(old)) => Ok(Reply::Answered(
-            format!(heap, "{what}: by hop {hop} in place of {old}")?,
-        )),
+        Ok(old) => Ok(Reply::Answered(inserted_text(heap, what.as_str(), hop, old)?)),
         Err(failure) => failed(heap, what.as_str(), failure),
     }
 }

@@ -1,13 +1,13 @@
 -- What the calls that name a prefix come to once its length and its soundness have passed.
 use mathlib.Core.Bool.{true}
 use mathlib.Core.List.{List}
-use mathlib.Core.Path.{_≡_, refl}
+use mathlib.Core.Path.{_≡_}
 use Prim.Native.Nat.{ℕ}
 use lib.Dec.{leb}
 use Rattle.std.specs.declared.option.Option.the-variants.{Some}
 use Rattle.bits.specs.Rows.{Bits}
-use Rattle.model.specs.Routes.{Routes, prefix-of, sound, last-hop, find, put, without, above}
-use Rattle.model.specs.Calls.{holding, insert, delete, exact, next, inserted, deleted, hop-is, route-is, done, perform}
+use Rattle.model.specs.Routes.{Routes, prefix-of, sound, last-hop, find, put, without}
+use Rattle.model.specs.Calls.{holding, insert, delete, exact, inserted, deleted, hop-is, done, perform}
 
 module _ (W N : ℕ) (plan : List ℕ) (routes : Routes) (a : Bits) (l : ℕ) (short : leb l W ≡ true) (clean : sound a l ≡ true) where
   pub insert-granted : (h : ℕ) → leb h last-hop ≡ true

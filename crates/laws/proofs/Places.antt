@@ -1,16 +1,15 @@
 -- Where a prefix has its place in a list of routes: behind those that stand before it.
-use mathlib.Core.Bool.{Bool, true, false, cond}
-use mathlib.Core.List.{List, [], _∷_, _++_}
+use mathlib.Core.Bool.{cond}
+use mathlib.Core.List.{[], _∷_, _++_}
 use mathlib.Core.Path.{_≡_, refl, ap, subst, sym, _∙_}
 use Prim.Native.Nat.{ℕ, zero, suc}
-use lib.ListN.{length, take, drop, take-append-drop}
+use lib.ListN.{take, drop, take-append-drop}
 use Rattle.std.specs.declared.cmp.Ordering.{Ordering}
 use Rattle.std.specs.declared.cmp.Ordering.the-variants.{Less, Equal, Greater}
-use Rattle.std.specs.declared.option.Option.{Option}
 use Rattle.std.specs.declared.option.Option.the-variants.{Some, None}
 use Rattle.bits.specs.Rows.{Bits}
 use Rattle.bits.specs.Order.{order, is-less, is-equal, flipped}
-use Rattle.bits.proofs.Orders.{order-equal, order-flips, order-chains}
+use Rattle.bits.proofs.Orders.{order-equal, order-flips}
 use Rattle.model.specs.Routes.{Route, Routes, route, find, put, without, smallest, above, Ascending, Above}
 use Rattle.laws.proofs.Routes.{find-below, above-chains}
 

@@ -1,17 +1,15 @@
 -- Laws of the ascending list of routes.
-use mathlib.Core.Bool.{Bool, true, false, cond}
-use mathlib.Core.List.{List, [], _∷_}
+use mathlib.Core.Bool.{false}
+use mathlib.Core.List.{[], _∷_}
 use mathlib.Core.Path.{_≡_, refl, ap, subst, sym, _∙_}
 use Prim.Native.Nat.{ℕ}
 use native.Mathlib.Omega.{arith}
-use Rattle.std.specs.declared.cmp.Ordering.{Ordering}
-use Rattle.std.specs.declared.cmp.Ordering.the-variants.{Less, Equal, Greater}
-use Rattle.std.specs.declared.option.Option.{Option}
+use Rattle.std.specs.declared.cmp.Ordering.the-variants.{Less, Greater}
 use Rattle.std.specs.declared.option.Option.the-variants.{Some, None}
 use Rattle.bits.specs.Rows.{Bits}
-use Rattle.bits.specs.Order.{order, is-less, is-equal, flipped}
+use Rattle.bits.specs.Order.{order, is-equal, flipped}
 use Rattle.model.specs.Routes.{Route, Routes, route, find, put, without, Ascending, Above}
-use Rattle.bits.proofs.Orders.{order-self, order-equal, order-flips, order-chains, Compared, less, equal, greater, compared}
+use Rattle.bits.proofs.Orders.{order-self, order-equal, order-flips, order-chains, less, equal, greater, compared}
 
 pub find-put : (rs : Routes) (p : Bits) (h : ℕ) → find (put rs p h) p ≡ Some h
 find-put [] p h = rw order-self

@@ -1,7 +1,7 @@
 -- What a granted call leaves of a route list: its plain list, and its routes sound and ascending.
 use mathlib.Core.Bool.{Bool, true, false, cond}
-use mathlib.Core.List.{List, [], _∷_, _++_, map}
-use mathlib.Core.Path.{_≡_, refl, sym, ap, subst, _∙_}
+use mathlib.Core.List.{List, _∷_, _++_, map}
+use mathlib.Core.Path.{_≡_, refl, sym, ap, _∙_}
 use Prim.Native.Nat.{ℕ, suc, _+_, _<_, _≤_}
 use native.Mathlib.Omega.{arith}
 use lib.Dec.{leb}
@@ -11,19 +11,17 @@ use Rattle.std.proofs.shelf.Lists.{map-append, map-set, take-map, drop-map, dro
 use Rattle.std.proofs.shelf.Tests.{leb-true}
 use Rattle.std.specs.Holes.{inserted, removed}
 use Rattle.std.specs.Of.Vec.{vec-items}
-use Rattle.std.specs.declared.option.Option.{Option}
 use Rattle.std.specs.declared.option.Option.the-variants.{Some, None}
-use Rattle.std.specs.declared.result.Result.the-variants.{Ok, Err}
+use Rattle.std.specs.declared.result.Result.the-variants.{Ok}
 use Rattle.std.specs.shelf.Lists.{All}
 use Rattle.bits.specs.Rows.{Bits}
 use Rattle.bits.specs.Order.{Sound}
 use Rattle.model.specs.Outcomes.{Outcome, granted, and-then}
-use Rattle.model.specs.Routes.{Route, Routes, route, sound, smallest, put, without, Ascending}
+use Rattle.model.specs.Routes.{Routes, route, sound, smallest, put}
 use Rattle.model.specs.Calls.{Plain, holding, Call, Answer, Done, done, perform, answer, left-by, shut}
-use Rattle.laws.proofs.Routes.{put-ascends, without-ascends}
 use Rattle.reference.specs.declared.Route.{Route as Entry}
 use Rattle.reference.specs.declared.RouteList.{RouteList}
-use Rattle.reference.specs.Shown.{meant, routes-of, shown, answer-of, left-of, Held, Keeps, admitted}
+use Rattle.reference.specs.Shown.{meant, routes-of, shown, answer-of, left-of, Held, admitted}
 use Rattle.reference.proofs.Finds.{from-here}
 
 -- what the first tests tell where they pass

@@ -1,19 +1,19 @@
 -- What stands at the place of a prefix in a list of entries, and the longest match from the end of the list on.
 use mathlib.Core.Bool.{Bool, true, false, cond}
 use mathlib.Core.List.{List, [], _∷_, _++_, map}
-use mathlib.Core.Path.{_≡_, refl, sym, ap, subst, _∙_}
+use mathlib.Core.Path.{_≡_, sym, ap, subst, _∙_}
 use Prim.Native.Nat.{ℕ, suc, _+_, _-_, _<_, _≤_}
 use native.Mathlib.Numerals.{add-one}
 use native.Mathlib.Omega.{arith}
-use lib.ListN.{length, getD, set, take, drop, length-map}
+use lib.ListN.{length, getD, take, drop, length-map}
 use lib.Seq.{set-split}
-use Rattle.std.proofs.shelf.Lists.{drop-more, drop-all, take-more, drop-map, getD-map}
+use Rattle.std.proofs.shelf.Lists.{drop-more, drop-all, take-more, getD-map}
 use Rattle.std.specs.declared.cmp.Ordering.the-variants.{Less, Equal, Greater}
 use Rattle.std.specs.declared.option.Option.the-variants.{Some, None}
 use Rattle.bits.specs.Rows.{Bits}
 use Rattle.bits.specs.Order.{order, begins, flipped}
 use Rattle.bits.proofs.Orders.{order-flips}
-use Rattle.model.specs.Routes.{Route, Routes, route, find, longer, longest, smallest, above, Ascending}
+use Rattle.model.specs.Routes.{Route, Routes, route, longer, longest, smallest, Ascending}
 use Rattle.laws.proofs.Places.{Below, below-push, put-end, find-end, above-end, put-miss, find-miss, above-miss, put-hit, find-hit, above-hit, without-hit}
 use Rattle.reference.specs.declared.Route.{Route as Entry}
 use Rattle.reference.specs.Shown.{meant}

@@ -1,5 +1,4 @@
 ghost use mathlib.Core.Path.{_≡_};
-ghost use mathlib.Core.List.{map};
 ghost use Prim.Native.Nat.{_≤_};
 ghost use lib.ListN.{drop};
 ghost use Rattle.std.specs.Of.Vec.{vec-len, vec-cap};
@@ -8,7 +7,7 @@ ghost use Rattle.std.specs.Vec.{made};
 ghost use Rattle.std.specs.declared.result.Result.the-variants.{Err};
 ghost use Rattle.model.specs.Outcomes.{outcome};
 ghost use Rattle.model.specs.Routes.{smallest};
-ghost use Rattle.model.specs.Calls.{Call, shut, open-with, insert, delete, lookup, exact, first, next, opened, inserted, deleted, matched, hop-is, route-is};
+ghost use Rattle.model.specs.Calls.{shut, open-with, insert, delete, lookup, exact, first, next, opened, inserted, deleted, matched, hop-is, route-is};
 ghost use Rattle.reference.specs.declared.Failure.the-variants.{NoMemory};
 ghost use Rattle.reference.specs.Shown.{shown, meant, answer-of, left-of, Keeps, Says, leaves, admitted, routes-of, MaybeHeld};
 use crate::Failure;

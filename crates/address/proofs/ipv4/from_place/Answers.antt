@@ -1,5 +1,5 @@
 use mathlib.Core.Path.{ap, _∙_}
-use Prim.Native.Nat.{_*_, _%_, _^_, _<_, _≤_, min}
+use Prim.Native.Nat.{min}
 use native.Mathlib.Omega.{arith}
 use Rattle.bits.specs.Rows.{top}
 use Rattle.bits.proofs.Words.{top-by-steps}

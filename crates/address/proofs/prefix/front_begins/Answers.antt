@@ -1,7 +1,6 @@
-use mathlib.Core.Path.{_≡_, refl, sym, ap, _∙_}
-use Prim.Native.Nat.{ℕ, _+_, _≤_, min}
+use mathlib.Core.Path.{_≡_, sym, _∙_}
+use Prim.Native.Nat.{min}
 use native.Mathlib.Omega.{arith}
-use lib.ListN.{length, take}
 use Rattle.bits.proofs.Prefixes.{more-same, group-same, take-more-than, begins-same, begins-other}
 use Rattle.address.proofs.prefix.front_begins.Needs as need
 

@@ -1,18 +1,16 @@
 use mathlib.Core.List.{List, map}
 use mathlib.Core.Path.{_≡_, refl, sym, ap, subst, _∙_}
-use Prim.Native.Nat.{ℕ, _<_, _≤_}
-use native.Mathlib.Omega.{arith}
-use lib.ListN.{length, getD}
+use Prim.Native.Nat.{_<_}
+use lib.ListN.{length}
 use Rattle.std.specs.Of.Vec.{vec-items}
-use Rattle.std.specs.declared.option.Option.the-variants.{Some, None}
+use Rattle.std.specs.declared.option.Option.the-variants.{Some}
 use Rattle.std.specs.shelf.Lists.{All}
 use Rattle.bits.specs.Order.{Sound}
-use Rattle.model.specs.Routes.{Route, Ascending, route, put, without, find}
+use Rattle.model.specs.Routes.{Route, Ascending, without}
 use Rattle.reference.specs.declared.Route.{Route as Entry}
 use Rattle.reference.specs.Shown.{prefix-bits, meant, Held, Keeps}
-use Rattle.reference.specs.Found.{Hit, Miss}
+use Rattle.reference.specs.Found.{Hit}
 use Rattle.reference.proofs.Finds.{route-at}
-use Rattle.model.specs.Outcomes.{granted}
 use Rattle.model.specs.Calls.{delete, deleted, holding, done, perform}
 use Rattle.laws.proofs.Granted.{delete-granted}
 use Rattle.laws.proofs.Routes.{without-ascends}

@@ -1,7 +1,7 @@
 use native.Mathlib.Omega.{arith}
 use Prim.Native.Nat.{_-_, _<_}
 use mathlib.Core.Path.{_∙_, sym, ap}
-use lib.ListN.{length, drop}
+use lib.ListN.{length}
 use Rattle.std.proofs.shelf.Elements.{all-getD}
 use Rattle.model.specs.Routes.{longer}
 use Rattle.reference.specs.Shown.{meant, Held}

@@ -1,6 +1,6 @@
 use native.Mathlib.Omega.{arith}
 use Prim.Native.Nat.{_<_}
-use mathlib.Core.Path.{_≡_, _∙_, sym, ap, subst}
+use mathlib.Core.Path.{_≡_, sym, ap, subst}
 use lib.ListN.{length, getD, take}
 use mathlib.Core.List.{map}
 use Rattle.std.proofs.shelf.Elements.{all-getD}

@@ -1,4 +1,3 @@
-use Prim.Native.Nat.{_+_, _*_, _^_}
 use native.Mathlib.Omega.{arith}
 use Rattle.bits.specs.Rows.{row}
 use Rattle.bits.proofs.Rows.{length-row}
