@@ -1,9 +1,12 @@
-# make run: prove and build the console, and run it on its stored task. make test: the gate.
+# make run: proves and builds the console, and runs it on its stored task.
+# make test: the gate.
 .PHONY: run test
 
 run:
-	rt check console
-	target/bin/console < crates/console/stdin
+	@echo "Proving and building the console; the first time this takes some minutes."
+	@mkdir -p target
+	@rt check console > target/console.check 2>&1 || { tail -n 40 target/console.check; exit 1; }
+	@target/bin/console < crates/console/stdin
 
 test:
 	rt ci
