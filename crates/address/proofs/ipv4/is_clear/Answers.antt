@@ -4,5 +4,5 @@ use Rattle.address.proofs.ipv4.is_clear.Goals as goal
 
 pub returns : goal.returns
 returns c =
-    ap (λ x. eqb x 0) c.from-place.ensures
+    ap (λ x. eqb x 0) c.from_place.ensures
     ∙ clear_top 64 32 c.args.place (min c.args.place 32) c.args.bits (omega arith) refl

@@ -16,8 +16,8 @@ returns-then-n-eq0 c =
     (λ e. sym (write_behind bs c.args.place c.args.len c.args.value (omega (arith, e.1))))
     c.then-n-eq0.either
 
-pub nonzero-rem-rest : goal.nonzero-rem-rest
-nonzero-rem-rest c =
+pub nonzero_rem-rest : goal.nonzero_rem-rest
+nonzero_rem-rest c =
     let s = 32 - c.args.place - c.min-kept.result in
     omega (arith, one_shl s 32 (omega arith), pow_pos s)
 

@@ -4,5 +4,5 @@ use Rattle.address.proofs.ipv6.is_clear.Goals as goal
 
 pub returns : goal.returns
 returns c =
-    ap (λ x. eqb x 0) c.from-place.ensures
+    ap (λ x. eqb x 0) c.from_place.ensures
     ∙ clear_top 128 128 c.args.place (min c.args.place 128) c.args.v (omega arith) refl
