@@ -23,7 +23,7 @@ returns-in-Ok g c =
     let a = bits c.args.prefix.address in
     let l = c.args.prefix.length in
     let p = prefix_bits bits c.args.prefix in
-    let ok = passed t.opened g.A.Address.width a l c.in-ok-admit.field-0 c.in-ok-admit.ensures in
+    let ok = passed t.opened g.A.Address.width a l c.in_ok-admit.field-0 c.in_ok-admit.ensures in
     let sound = sound_when g.A.Address.width a l (g.met.A.Address.long c.args.prefix.address) ok.short ok.clean in
     let i = c.in-Ok.i in
     let inside : i < length xs = subst (λ (ys : List (Entry g.row.A.Denot)). i < length ys) c.as-slice.ensures.value c.in-Ok.ensures.within in
@@ -54,15 +54,15 @@ returns-in-Ok g c =
       memory = λ e. absurd (let z : ◌≡◌ {A = ℕ} 0 1 = cc in omega arith);
     }
 
-pub returns-in-ok-insert : goal.returns-in-ok-insert
-returns-in-ok-insert g c =
+pub returns-in_ok-insert : goal.returns-in_ok-insert
+returns-in_ok-insert g c =
     let bits = g.A.Address.bits in
     let t = c.args.self.now in
     let xs = vec_items t.routes in
     let a = bits c.args.prefix.address in
     let l = c.args.prefix.length in
     let p = prefix_bits bits c.args.prefix in
-    let ok = passed t.opened g.A.Address.width a l c.in-ok-admit.field-0 c.in-ok-admit.ensures in
+    let ok = passed t.opened g.A.Address.width a l c.in_ok-admit.field-0 c.in_ok-admit.ensures in
     let sound = sound_when g.A.Address.width a l (g.met.A.Address.long c.args.prefix.address) ok.short ok.clean in
     let i = c.in-Err.i in
     let miss : Keeps bits t → Miss (map (meant bits) xs) p i =
@@ -77,7 +77,7 @@ returns-in-ok-insert g c =
     let so : perform W t.nodes (holding (vec_items t.plan) rs) (insert a l h) ≡ done (inserted (find rs p)) (holding (vec_items t.plan) (put rs p h)) =
     insert_granted W t.nodes (vec_items t.plan) rs a l ok.short ok.clean h small in
     let items = vec_items c.insert.new.self in
-    let then = c.in-ok-insert.ensures.items in
+    let then = c.in_ok-insert.ensures.items in
     let left : Keeps bits t → map (meant bits) items ≡ put rs p h =
     λ k. ap (map (meant bits)) then ∙ meant_inserted bits xs i x ∙ sym ((miss k).puts h) in
     record {

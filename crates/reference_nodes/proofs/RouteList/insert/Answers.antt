@@ -23,12 +23,12 @@ use Rattle.reference_nodes.proofs.Edits.{passed, sound_when, answered, then_show
 use Rattle.reference_nodes.proofs.Nodes.{no_room, not_admitted, room, taken_are, taken_so}
 use Rattle.reference_nodes.proofs.RouteList.insert.Goals as goal
 
-pub returns-in-err-admit : goal.returns-in-err-admit
-returns-in-err-admit g c =
+pub returns-in_err-admit : goal.returns-in_err-admit
+returns-in_err-admit g c =
     let bits = g.A.Address.bits in
     let t = c.args.self.now in
     let p = err_from_is_err_and c.from-residual.result c.from-residual.ensures.1 in
-    let no = not_admitted bits g.A.Address.width t (bits c.args.prefix.address) c.args.prefix.length c.args.hop c.in-err-admit.field-0.0 c.in-err-admit.ensures in
+    let no = not_admitted bits g.A.Address.width t (bits c.args.prefix.address) c.args.prefix.length c.args.hop c.in_err-admit.field-0.0 c.in_err-admit.ensures in
     rw (p.1, p.2) (record {
       answer = λ k. no.answer;
       after = λ k. no.left;
@@ -49,7 +49,7 @@ returns-then-taken-self g c =
     let l = c.args.prefix.length in
     let h = c.args.hop in
     let p = prefix_bits bits c.args.prefix in
-    let ok = passed t.opened W a l c.in-ok-admit.field-0 c.in-ok-admit.ensures in
+    let ok = passed t.opened W a l c.in_ok-admit.field-0 c.in_ok-admit.ensures in
     let long = g.met.A.Address.long c.args.prefix.address in
     let small : leb h last_hop ≡ true = le-leb h last_hop c.if-hop-gt-LAST-HOP.false in
     let n = c.missing-nodes-taken.result in
@@ -68,8 +68,8 @@ returns-then-taken-self g c =
       memory = λ e. absurd (let z : ◌≡◌ {A = ℕ} 0 1 = cc in omega arith);
     }
 
-pub returns-in-err-insert : goal.returns-in-err-insert
-returns-in-err-insert g c =
+pub returns-in_err-insert : goal.returns-in_err-insert
+returns-in_err-insert g c =
     let bits = g.A.Address.bits in
     let W = g.A.Address.width in
     let t = c.args.self.now in
@@ -80,7 +80,7 @@ returns-in-err-insert g c =
     let l = c.args.prefix.length in
     let h = c.args.hop in
     let p = prefix_bits bits c.args.prefix in
-    let ok = passed t.opened W a l c.in-ok-admit.field-0 c.in-ok-admit.ensures in
+    let ok = passed t.opened W a l c.in_ok-admit.field-0 c.in_ok-admit.ensures in
     let long = g.met.A.Address.long c.args.prefix.address in
     let small : leb h last_hop ≡ true = le-leb h last_hop c.if-hop-gt-LAST-HOP.false in
     let n = c.missing-nodes-taken.result in
@@ -95,8 +95,8 @@ returns-in-err-insert g c =
     let fits = λ (k : Keeps bits W t). room bits W t c.args.prefix long ok.short ok.is_open k n h (taken k) c.if-taken-self.false in
     let so : Keeps bits W t → perform W t.nodes (holding plan rs) (insert a l h) ≡ done (inserted (find rs p) nodes) (holding plan (put rs p h)) =
     λ k. insert_granted W t.nodes plan rs a l ok.short ok.clean h small (fits k) in
-    let none = err_from_is_err_and c.from-residual-in-err-insert.result c.from-residual-in-err-insert.ensures.1 in
-    let same : vec_items c.insert.new.self ≡ xs = c.in-err-insert.ensures.items in
+    let none = err_from_is_err_and c.from-residual-in_err-insert.result c.from-residual-in_err-insert.ensures.1 in
+    let same : vec_items c.insert.new.self ≡ xs = c.in_err-insert.ensures.items in
     rw (none.1, none.2) (record {
       answer = λ k. ap is_granted (sym (answered bits W t (insert a l h) ok.is_open (inserted (find rs p) nodes) (put rs p h) (so k)));
       after = λ k. ap (λ (ys : List (Entry g.row.A.Denot)). cond t.opened (holding plan (map (meant bits) ys)) shut) same;
@@ -107,7 +107,7 @@ returns-in-err-insert g c =
         counted = λ e. k.counted e ∙ ap (λ (ys : List (Entry g.row.A.Denot)). required plan (map (meant bits) ys)) (sym same);
       };
       size = refl;
-      memory = λ e. omega (arith, c.in-err-insert.ensures.full);
+      memory = λ e. omega (arith, c.in_err-insert.ensures.full);
     })
 
 pub returns-in-Ok : goal.returns-in-Ok
@@ -122,7 +122,7 @@ returns-in-Ok g c =
     let l = c.args.prefix.length in
     let h = c.args.hop in
     let p = prefix_bits bits c.args.prefix in
-    let ok = passed t.opened W a l c.in-ok-admit.field-0 c.in-ok-admit.ensures in
+    let ok = passed t.opened W a l c.in_ok-admit.field-0 c.in_ok-admit.ensures in
     let long = g.met.A.Address.long c.args.prefix.address in
     let small : leb h last_hop ≡ true = le-leb h last_hop c.if-hop-gt-LAST-HOP.false in
     let n = c.missing-nodes-taken.result in
@@ -161,8 +161,8 @@ returns-in-Ok g c =
       memory = λ e. absurd (let z : ◌≡◌ {A = ℕ} 0 1 = cc in omega arith);
     }
 
-pub returns-in-ok-insert : goal.returns-in-ok-insert
-returns-in-ok-insert g c =
+pub returns-in_ok-insert : goal.returns-in_ok-insert
+returns-in_ok-insert g c =
     let bits = g.A.Address.bits in
     let W = g.A.Address.width in
     let t = c.args.self.now in
@@ -173,7 +173,7 @@ returns-in-ok-insert g c =
     let l = c.args.prefix.length in
     let h = c.args.hop in
     let p = prefix_bits bits c.args.prefix in
-    let ok = passed t.opened W a l c.in-ok-admit.field-0 c.in-ok-admit.ensures in
+    let ok = passed t.opened W a l c.in_ok-admit.field-0 c.in_ok-admit.ensures in
     let long = g.met.A.Address.long c.args.prefix.address in
     let small : leb h last_hop ≡ true = le-leb h last_hop c.if-hop-gt-LAST-HOP.false in
     let n = c.missing-nodes-taken.result in
@@ -193,7 +193,7 @@ returns-in-ok-insert g c =
     λ k. subst (λ (ys : List (Entry g.row.A.Denot)). All (Held bits) ys → Ascending (map (meant bits) ys) → Sound a l → Miss (map (meant bits) ys) p i)
     c.as-slice-3.ensures.value c.in-Err.ensures.cases k.held k.ascends sound in
     let items = vec_items c.insert.new.self in
-    let then = c.in-ok-insert.ensures.items in
+    let then = c.in_ok-insert.ensures.items in
     let left : Keeps bits W t → map (meant bits) items ≡ put rs p h =
     λ k. ap (map (meant bits)) then ∙ meant_inserted bits xs i x ∙ sym ((miss k).puts h) in
     record {

@@ -16,7 +16,7 @@ use Rattle.reference_nodes.proofs.RouteList.open.Goals as goal
 pub invariant-of-self : goal.invariant-of-self
 invariant-of-self g c =
     let few = (planned c.bit-count.result c.args.strides.now (sym c.if-not-is-plan.ensures)).few in
-    let made = c.in-ok-plan.ensures.made in
+    let made = c.in_ok-plan.ensures.made in
     (omega arith, (omega arith, tt))
 
 pub returns : goal.returns
@@ -24,8 +24,8 @@ returns g c =
     let bits = g.A.Address.bits in
     let W = g.A.Address.width in
     let strides = c.args.strides.now in
-    let plan = c.in-ok-plan.plan in
-    let is = c.in-ok-plan.ensures.items in
+    let plan = c.in_ok-plan.plan in
+    let is = c.in_ok-plan.ensures.items in
     let none = c.clear.ensures.items in
     let ok : plan_ok W strides ≡ true = ap (λ (w : ℕ). plan_ok w strides) (sym c.bit-count.ensures) ∙ sym c.if-not-is-plan.ensures in
     let some : leb 1 c.args.self.now.nodes ≡ true = le-leb 1 c.args.self.now.nodes (omega arith) in

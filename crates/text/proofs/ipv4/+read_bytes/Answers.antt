@@ -7,8 +7,8 @@ use Rattle.text.specs.Dots.{weight, weight_le, shifted, joined_lt, first_byte, l
 use Rattle.text.proofs.ipv4.+read_bytes.Goals as goal
 use Rattle.text.proofs.ipv4.+read_bytes.Goals.{then-end-text-2-via-then-end-text-2, then-end-text-2-via-else-end-text-2+then-text-end-ne46}
 
-pub returns-in-default : goal.returns-in-default
-returns-in-default t c = no_number (with_dots c.args.dots) (first_byte c.args.dots) c.args.text.now c.in-default.ensures
+pub returns-in_default : goal.returns-in_default
+returns-in_default t c = no_number (with_dots c.args.dots) (first_byte c.args.dots) c.args.text.now c.in_default.ensures
 
 pub returns-then-end-text : goal.returns-then-end-text
 returns-then-end-text t c =
@@ -49,8 +49,8 @@ module _ (t : ℕ) (c : goal.In-Ok t) where
       subst (λ i. c.in-Some.number * weight (c.args.dots - 1) + c.in-Ok.rest < weight i) (sym d)
       (joined_lt (c.args.dots - 1) c.in-Some.number c.in-Ok.rest l.small c.in-Ok.ensures.1)
 
-pub overflow-add-result : goal.overflow-add-result
-overflow-add-result t c = omega (arith, sum t c, small t c, weight_le c.args.dots c.requires)
+pub overflow_add-result : goal.overflow_add-result
+overflow_add-result t c = omega (arith, sum t c, small t c, weight_le c.args.dots c.requires)
 
 pub returns-in-Ok : goal.returns-in-Ok
 returns-in-Ok t c =

@@ -9,7 +9,7 @@ pub returns-in-Ok : goal.returns-in-Ok
 returns-in-Ok g c =
     let reads = g.A.AddressText.reads in
     let xs = c.args.text.now in
-    let f = without reads xs (length xs) (omega arith) c.in-default.ensures (λ a r. refl) in
+    let f = without reads xs (length xs) (omega arith) c.in_default.ensures (λ a r. refl) in
     record {
       value = (f.within, f.none);
       back = λ a l small e. f.none a l (written reads xs a (g.A.AddressText.spelled a) l (g.met.A.AddressText.back a) small e);
@@ -21,7 +21,7 @@ returns-in-Err g c =
     let reads = g.A.AddressText.reads in
     let xs = c.args.text.now in
     let s = c.in-Err.ensures in
-    let f = without reads xs c.in-Err.stop.place s.0 c.in-default.ensures (λ a r. absurd (s.1 a r)) in
+    let f = without reads xs c.in-Err.stop.place s.0 c.in_default.ensures (λ a r. absurd (s.1 a r)) in
     record {
       value = (f.within, f.none);
       back = λ a l small e. f.none a l (written reads xs a (g.A.AddressText.spelled a) l (g.met.A.AddressText.back a) small e);

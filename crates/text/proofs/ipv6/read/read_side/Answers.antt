@@ -13,11 +13,11 @@ returns-then-count-most c =
     side_over c.args.text.now c.loop-count.rest.now c.args.most c.loop-count.count c.loop-count.number
     (omega (arith, false-eqb (length c.args.text.now) 0 c.if-is-empty.ensures)) c.loop-count.invariant c.if-count-most.true
 
-pub overflow-mul-number : goal.overflow-mul-number
-overflow-mul-number c = omega (arith, number_low c.loop-count.count c.loop-count.number (omega (arith, c.loop-count.invariant.few)) c.loop-count.invariant.small)
+pub overflow_mul-number : goal.overflow_mul-number
+overflow_mul-number c = omega (arith, number_low c.loop-count.count c.loop-count.number (omega (arith, c.loop-count.invariant.few)) c.loop-count.invariant.small)
 
-pub overflow-add-number : goal.overflow-add-number
-overflow-add-number c = omega (arith, number_low c.loop-count.count c.loop-count.number (omega (arith, c.loop-count.invariant.few)) c.loop-count.invariant.small)
+pub overflow_add-number : goal.overflow_add-number
+overflow_add-number c = omega (arith, number_low c.loop-count.count c.loop-count.number (omega (arith, c.loop-count.invariant.few)) c.loop-count.invariant.small)
 
 pub returns-in-Err : goal.returns-in-Err
 returns-in-Err c =

@@ -8,15 +8,15 @@ loop-i-init c = (omega arith, omega arith, digit_none c.args.text.now)
 pub returns-then-i-eq-MOST-DIGITS : goal.returns-then-i-eq-MOST-DIGITS
 returns-then-i-eq-MOST-DIGITS c = (omega arith, word_long c.args.text.now (omega arith))
 
-pub returns-in-default : goal.returns-in-default
-returns-in-default c =
-    (omega arith, digit_strange c.args.text.now c.loop-i.i c.loop-i.number c.from.result c.loop-i-test.true c.loop-i.invariant.2 c.from.ensures c.in-default.ensures.value)
+pub returns-in_default : goal.returns-in_default
+returns-in_default c =
+    (omega arith, digit_strange c.args.text.now c.loop-i.i c.loop-i.number c.from.result c.loop-i-test.true c.loop-i.invariant.2 c.from.ensures c.in_default.ensures.value)
 
-pub overflow-mul-number : goal.overflow-mul-number
-overflow-mul-number c = omega (arith, below_word c.loop-i.i c.loop-i.number (omega arith) c.loop-i.invariant.2.bound)
+pub overflow_mul-number : goal.overflow_mul-number
+overflow_mul-number c = omega (arith, below_word c.loop-i.i c.loop-i.number (omega arith) c.loop-i.invariant.2.bound)
 
-pub overflow-add-number : goal.overflow-add-number
-overflow-add-number c =
+pub overflow_add-number : goal.overflow_add-number
+overflow_add-number c =
     let d = c.in-Some.ensures.value in
     omega (arith, below_word c.loop-i.i c.loop-i.number (omega arith) c.loop-i.invariant.2.bound, d.0, d.1)
 

@@ -4,7 +4,7 @@ use Rattle.std.proofs.lemmas.Result.{IfOk-weaker}
 use Rattle.text.specs.Colons.{hex}
 use Rattle.text.specs.Hexadecimal.{hex_one, hex_step}
 use Rattle.text.proofs.ipv6.write.+push_hex.Goals as goal
-use Rattle.text.proofs.ipv6.write.+push_hex.Goals.{then-group-ge16+in-ok-push-hex, else-group-ge16}
+use Rattle.text.proofs.ipv6.write.+push_hex.Goals.{then-group-ge16+in_ok-push-hex, else-group-ge16}
 
 pub returns : goal.returns
 returns t c =
@@ -12,10 +12,10 @@ returns t c =
     let was = string_bytes c.args.out.now in
     IfOk-weaker c.push-digit.result _ _
     (λ x e. elim c.if-group-ge16.branch [
-      | then-group-ge16+in-ok-push-hex w ↦
+      | then-group-ge16+in_ok-push-hex w ↦
           e
           ∙ ap (λ s. string_bytes s ++ digit_char (n % 16) ∷ []) w.out-is
-          ∙ ap (λ b. b ++ digit_char (n % 16) ∷ []) w.in-ok-push-hex.ensures
+          ∙ ap (λ b. b ++ digit_char (n % 16) ∷ []) w.in_ok-push-hex.ensures
           ∙ append_assoc was (hex (n / 16)) (digit_char (n % 16) ∷ [])
           ∙ ap (λ b. was ++ b) (sym (hex_step n w.if-group-ge16.true (omega arith)))
       | else-group-ge16 w ↦

@@ -5,8 +5,8 @@ use Rattle.text.specs.Colons.{hex}
 use Rattle.text.specs.Written.{written_none, written_more, written_all}
 use Rattle.text.proofs.ipv6.write.push_groups.Goals as goal
 
-pub returns-in-default : goal.returns-in-default
-returns-in-default c = written_none (string_bytes c.args.out.now) c.args.all.now (omega (arith, ltb-true))
+pub returns-in_default : goal.returns-in_default
+returns-in_default c = written_none (string_bytes c.args.out.now) c.args.all.now (omega (arith, ltb-true))
 
 pub loop-group-preserved : goal.loop-group-preserved
 unfolding encode
@@ -15,11 +15,11 @@ loop-group-preserved c =
     let rest = take (length gs - 1) (drop 1 gs) in
     let i = c.loop-group.group_index in
     written_more (string_bytes c.push-hex.new.out) rest i _ c.loop-group-test.true
-    (c.in-ok-push-hex-2.ensures
-    ∙ ap (λ b. b ++ hex (get_or rest i 0)) (pushed (58 ∷ []) c.loop-group.invariant c.in-ok-push.was c.push.ensures.bytes))
+    (c.in_ok-push-hex-2.ensures
+    ∙ ap (λ b. b ++ hex (get_or rest i 0)) (pushed (58 ∷ []) c.loop-group.invariant c.in_ok-push.was c.push.ensures.bytes))
 
 pub returns : goal.returns
 returns c =
     let gs = c.args.all.now in
     written_all (string_bytes c.args.out.now) gs (take (length gs - 1) (drop 1 gs)) c.loop-group.group_index _ _ (omega (arith, ltb-false)) refl c.loop-group-test.false
-    c.in-ok-push-hex.ensures c.loop-group.invariant
+    c.in_ok-push-hex.ensures c.loop-group.invariant
