@@ -23,10 +23,10 @@ returns-in-Ok g c =
     let ok = passed t.opened g.A.Address.width a l c.in_ok-admit.field-0 c.in_ok-admit.ensures in
     let sound = sound_when g.A.Address.width a l (g.met.A.Address.long c.args.prefix.address) ok.short ok.clean in
     let i = c.in-Ok.i in
-    let inside : i < length xs = subst (λ (ys : List (Entry g.row.A.Denot)). i < length ys) c.as-slice.ensures.value c.in-Ok.ensures.within in
+    let inside : i < length xs = subst (λ (ys : List (Entry g.row.A.Denot)). i < length ys) c.as_slice.ensures.value c.in-Ok.ensures.within in
     let hit : Keeps bits t → Hit (map (meant bits) xs) p i =
     λ k. subst (λ (ys : List (Entry g.row.A.Denot)). All (Held bits) ys → Ascending (map (meant bits) ys) → Sound a l → Hit (map (meant bits) ys) p i)
-    c.as-slice.ensures.value c.in-Ok.ensures.cases k.held k.ascends sound in
+    c.as_slice.ensures.value c.in-Ok.ensures.cases k.held k.ascends sound in
     let rs = map (meant bits) xs in
     let W = g.A.Address.width in
     let x = c.remove-old.result in

@@ -26,16 +26,16 @@ returns-in-Ok g c =
     let ok = passed t.opened g.A.Address.width a l c.in_ok-admit.field-0 c.in_ok-admit.ensures in
     let sound = sound_when g.A.Address.width a l (g.met.A.Address.long c.args.prefix.address) ok.short ok.clean in
     let i = c.in-Ok.i in
-    let inside : i < length xs = subst (λ (ys : List (Entry g.row.A.Denot)). i < length ys) c.as-slice.ensures.value c.in-Ok.ensures.within in
+    let inside : i < length xs = subst (λ (ys : List (Entry g.row.A.Denot)). i < length ys) c.as_slice.ensures.value c.in-Ok.ensures.within in
     let hit : Keeps bits t → Hit (map (meant bits) xs) p i =
     λ k. subst (λ (ys : List (Entry g.row.A.Denot)). All (Held bits) ys → Ascending (map (meant bits) ys) → Sound a l → Hit (map (meant bits) ys) p i)
-    c.as-slice.ensures.value c.in-Ok.ensures.cases k.held k.ascends sound in
+    c.as_slice.ensures.value c.in-Ok.ensures.cases k.held k.ascends sound in
     let rs = map (meant bits) xs in
     let W = g.A.Address.width in
     let h = c.args.hop in
     let x : Entry g.row.A.Denot = record { prefix = c.args.prefix; hop = h } in
-    let small : leb h last_hop ≡ true = le-leb h last_hop c.if-hop-gt-LAST-HOP.false in
-    let one : Held bits x = (sound, c.if-hop-gt-LAST-HOP.false) in
+    let small : leb h last_hop ≡ true = le-leb h last_hop c.if-hop-gt-LAST_HOP.false in
+    let one : Held bits x = (sound, c.if-hop-gt-LAST_HOP.false) in
     let so : perform W t.nodes (holding (vec_items t.plan) rs) (insert a l h) ≡ done (inserted (find rs p)) (holding (vec_items t.plan) (put rs p h)) =
     insert_granted W t.nodes (vec_items t.plan) rs a l ok.short ok.clean h small in
     let old = c.index.result.now in
@@ -54,8 +54,8 @@ returns-in-Ok g c =
       memory = λ e. absurd (let z : ◌≡◌ {A = ℕ} 0 1 = cc in omega arith);
     }
 
-pub returns-in_ok-insert : goal.returns-in_ok-insert
-returns-in_ok-insert g c =
+pub returns-in_ok-insert-in-Err : goal.returns-in_ok-insert-in-Err
+returns-in_ok-insert-in-Err g c =
     let bits = g.A.Address.bits in
     let t = c.args.self.now in
     let xs = vec_items t.routes in
@@ -67,17 +67,17 @@ returns-in_ok-insert g c =
     let i = c.in-Err.i in
     let miss : Keeps bits t → Miss (map (meant bits) xs) p i =
     λ k. subst (λ (ys : List (Entry g.row.A.Denot)). All (Held bits) ys → Ascending (map (meant bits) ys) → Sound a l → Miss (map (meant bits) ys) p i)
-    c.as-slice.ensures.value c.in-Err.ensures.cases k.held k.ascends sound in
+    c.as_slice.ensures.value c.in-Err.ensures.cases k.held k.ascends sound in
     let rs = map (meant bits) xs in
     let W = g.A.Address.width in
     let h = c.args.hop in
     let x : Entry g.row.A.Denot = record { prefix = c.args.prefix; hop = h } in
-    let small : leb h last_hop ≡ true = le-leb h last_hop c.if-hop-gt-LAST-HOP.false in
-    let one : Held bits x = (sound, c.if-hop-gt-LAST-HOP.false) in
+    let small : leb h last_hop ≡ true = le-leb h last_hop c.if-hop-gt-LAST_HOP.false in
+    let one : Held bits x = (sound, c.if-hop-gt-LAST_HOP.false) in
     let so : perform W t.nodes (holding (vec_items t.plan) rs) (insert a l h) ≡ done (inserted (find rs p)) (holding (vec_items t.plan) (put rs p h)) =
     insert_granted W t.nodes (vec_items t.plan) rs a l ok.short ok.clean h small in
     let items = vec_items c.insert.new.self in
-    let then = c.in_ok-insert.ensures.items in
+    let then = c.in_ok-insert-in-Err.ensures.items in
     let left : Keeps bits t → map (meant bits) items ≡ put rs p h =
     λ k. ap (map (meant bits)) then ∙ meant_inserted bits xs i x ∙ sym ((miss k).puts h) in
     record {
