@@ -4,6 +4,7 @@ use Rattle.std.proofs.ByRecursion.{All-append, All-take, All-drop, All-set}
 use Rattle.std.proofs.lemmas.List.{map-append, map-set, take-map, drop-map, drop_all}
 use Rattle.std.proofs.lemmas.Bool.{leb-true}
 use Rattle.std.specs.List.{insert, remove, AllByRecursion as All}
+use Rattle.address.specs.declared.Address.{Ghosts}
 use Rattle.bits.specs.Rows.{Bits}
 use Rattle.bits.specs.Order.{Sound}
 use Rattle.faults.specs.declared.Layer.{Layer}
@@ -35,7 +36,7 @@ pub sound_when : (W : ℕ) (a : Bits) (l : ℕ) → length a ≡ W → leb l W �
 sound_when W a l long short clean = (let h = leb-true l W short in omega arith, clean)
 
 module _ {X : Type 0} (bits : X → Bits) where
-  module _ (W : ℕ) (t : RouteList X) (call : Call) (is_open : t.opened ≡ true) where
+  module _ {G : Ghosts X} (W : ℕ) (t : RouteList X G) (call : Call) (is_open : t.opened ≡ true) where
     abbrev held_list : Plain
     held_list = holding (vec_items t.plan) (routes_of bits t)
 

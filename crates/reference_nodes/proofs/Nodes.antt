@@ -1,6 +1,7 @@
 -- The number of nodes that a call answers, and what the first tests refuse.
 use Rattle.std.proofs.Common.{◌≡◌, ℕ, ◌+◌, ◌-◌, ◌<◌, ◌≤◌, Bool, true, false, leb, List, length, Some, Err, vec_items, Result, sym, refl, ap, ◌∙◌, subst, ap₂, arith}
 use Rattle.std.proofs.lemmas.Bool.{le-leb, leb-true, lt-leb}
+use Rattle.address.specs.declared.Address.{Ghosts}
 use Rattle.address.specs.declared.prefix.Prefix.{Prefix}
 use Rattle.bits.specs.Rows.{Bits}
 use Rattle.faults.specs.declared.Fault.{Fault}
@@ -23,11 +24,11 @@ abbrev pub told : Fault → Outcome Answer
 told f = refused (number_of f.refusal) f.layer f.place
 
 -- a refused call: by number, layer and place, and what it leaves
-pub record TurnedDown {X : Type 0} (bits : X → Bits) (W : ℕ) (t : RouteList X) (call : Call) (f : Fault) : Type 0 where
+pub record TurnedDown {X : Type 0} {G : Ghosts X} (bits : X → Bits) (W : ℕ) (t : RouteList X G) (call : Call) (f : Fault) : Type 0 where
   pub answer : told f ≡ answer_of bits W t call
   pub left : shown bits t ≡ left_of bits W t call
 
-module _ {X : Type 0} (bits : X → Bits) (W : ℕ) (t : RouteList X) (a : Bits) (l h : ℕ) where
+module _ {X : Type 0} {G : Ghosts X} (bits : X → Bits) (W : ℕ) (t : RouteList X G) (a : Bits) (l h : ℕ) where
   -- an insert that the first tests refuse
   pub not_admitted : (f : Fault) → Err f ≡ admitted t.opened W a l → TurnedDown bits W t (insert a l h) f
   not_admitted f = by t.opened (leb l W) (sound a l) refl refl refl
@@ -47,7 +48,7 @@ module _ {X : Type 0} (bits : X → Bits) (W : ℕ) (t : RouteList X) (a : Bits)
           let is : f ≡ of_table Shut = cc in
           record { answer = simp e (ap told is); left = simp e }
 
-module _ {X : Type 0} (bits : X → Bits) (W : ℕ) (t : RouteList X) (p : Prefix X) (long : length (bits p.address) ≡ W) (short : leb p.length W ≡ true)
+module _ {X : Type 0} {G : Ghosts X} (bits : X → Bits) (W : ℕ) (t : RouteList X G) (p : Prefix X) (long : length (bits p.address) ≡ W) (short : leb p.length W ≡ true)
     (is_open : t.opened ≡ true) (k : Keeps bits W t) where
   abbrev rs : Routes
   rs = routes_of bits t

@@ -2,6 +2,7 @@
 use Rattle.std.specs.Prelude.{◌≡◌, ℕ, ◌≤◌, Bool, true, cond, map, Some, None, Ok, Err, vec_items, Option, Result, nat_le}
 use Rattle.std.specs.Option.{option_map}
 use Rattle.std.specs.List.{AllByRecursion as All}
+use Rattle.address.specs.declared.Address.{Ghosts}
 use Rattle.address.specs.declared.prefix.Prefix.{Prefix}
 use Rattle.bits.specs.Rows.{Bits}
 use Rattle.bits.specs.Order.{Sound}
@@ -32,20 +33,6 @@ module _ {X : Type 0} (bits : X → Bits) where
   abbrev pub meant : Entry X → Route
   meant r = route (prefix_bits r.prefix) r.hop
 
-  abbrev pub routes_of : RouteList X → Routes
-  routes_of t = map meant (vec_items t.routes)
-
-  -- the plain list that it stands for
-  abbrev pub shown : RouteList X → Plain
-  shown t = cond t.opened (holding (vec_items t.plan) (routes_of t)) shut
-
-  -- what that plain list answers to a call, and what the call leaves of it
-  abbrev pub answer_of : ℕ → RouteList X → Call → Outcome Answer
-  answer_of W t call = answer W t.nodes (shown t) call
-
-  abbrev pub left_of : ℕ → RouteList X → Call → Plain
-  left_of W t call = after W t.nodes (shown t) call
-
   -- an entry is a sound prefix with a hop in range
   abbrev pub Held : Entry X → Type 0
   Held r = Sound (bits r.prefix.address) r.prefix.length × (r.hop ≤ last_hop)
@@ -55,21 +42,37 @@ module _ {X : Type 0} (bits : X → Bits) where
   MaybeHeld None = Unit {0}
   MaybeHeld (Some r) = Held r
 
-  -- What every route list made here has: its routes ascend, each is sound, and where it is open its plan is one for W bits and its nodes
-  -- are counted.
-  pub record Keeps (W : ℕ) (t : RouteList X) : Type 0 where
-    pub ascends : Ascending (routes_of t)
-    pub held : All Held (vec_items t.routes)
-    pub planned : t.opened ≡ true → plan_ok W (vec_items t.plan) ≡ true
-    pub counted : t.opened ≡ true → t.required ≡ required (vec_items t.plan) (routes_of t)
-
   -- what a lookup answered
   abbrev pub match_answer : Matched X → Answer
   match_answer m = matched (option_map meant m.route) m.path
 
-  -- what the plain list answers to a lookup where it is open
-  abbrev pub matched_in : RouteList X → Bits → Answer
-  matched_in t address = matched (longest (routes_of t) address) (path_count (vec_items t.plan) (routes_of t) address)
+  -- a type with ghost fields is named with what its bounds mean, whatever that is
+  module _ {G : Ghosts X} where
+    abbrev pub routes_of : RouteList X G → Routes
+    routes_of t = map meant (vec_items t.routes)
+
+    -- the plain list that it stands for
+    abbrev pub shown : RouteList X G → Plain
+    shown t = cond t.opened (holding (vec_items t.plan) (routes_of t)) shut
+
+    -- what that plain list answers to a call, and what the call leaves of it
+    abbrev pub answer_of : ℕ → RouteList X G → Call → Outcome Answer
+    answer_of W t call = answer W t.nodes (shown t) call
+
+    abbrev pub left_of : ℕ → RouteList X G → Call → Plain
+    left_of W t call = after W t.nodes (shown t) call
+
+    -- What every route list made here has: its routes ascend, each is sound, and where it is open its plan is one for W bits and its nodes
+    -- are counted.
+    pub record Keeps (W : ℕ) (t : RouteList X G) : Type 0 where
+      pub ascends : Ascending (routes_of t)
+      pub held : All Held (vec_items t.routes)
+      pub planned : t.opened ≡ true → plan_ok W (vec_items t.plan) ≡ true
+      pub counted : t.opened ≡ true → t.required ≡ required (vec_items t.plan) (routes_of t)
+
+    -- what the plain list answers to a lookup where it is open
+    abbrev pub matched_in : RouteList X G → Bits → Answer
+    matched_in t address = matched (longest (routes_of t) address) (path_count (vec_items t.plan) (routes_of t) address)
 
 -- what an insert, a delete and a count answered
 abbrev pub insert_answer : Inserted → Answer

@@ -23,10 +23,10 @@ returns-in-Ok g c k =
     let ok = passed t.opened g.A.Address.width a l c.in_ok-admit.field-0 c.in_ok-admit.ensures in
     let sound = sound_when g.A.Address.width a l (g.met.A.Address.long c.args.prefix.address) ok.short ok.clean in
     let i = c.in-Ok.i in
-    let inside : i < length xs = subst (λ (ys : List (Entry g.row.A.Denot)). i < length ys) c.as-slice.ensures.value c.in-Ok.ensures.within in
+    let inside : i < length xs = subst (λ (ys : List (Entry g.row.A.Denot)). i < length ys) c.as_slice.ensures.value c.in-Ok.ensures.within in
     let hit : Keeps bits g.A.Address.width t → Hit (map (meant bits) xs) p i =
     λ k. subst (λ (ys : List (Entry g.row.A.Denot)). All (Held bits) ys → Ascending (map (meant bits) ys) → Sound a l → Hit (map (meant bits) ys) p i)
-    c.as-slice.ensures.value c.in-Ok.ensures.cases k.held k.ascends sound in
+    c.as_slice.ensures.value c.in-Ok.ensures.cases k.held k.ascends sound in
     let x = c.index.result.now in
     let there : find (map (meant bits) xs) p ≡ Some x.hop =
     (hit k).finds (meant bits x) ∙ ap (λ (r : Route). Some r.hop) (route_at bits xs i x inside c.index.ensures (meant bits x)) in

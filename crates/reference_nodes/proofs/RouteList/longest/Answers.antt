@@ -17,16 +17,16 @@ returns g c =
     let rs = routes_of bits t in
     let plan = vec_items t.plan in
     let a = bits c.args.address.now in
-    let found = c.longest-match-route.result in
+    let found = c.longest_match-route.result in
     record {
       answer = λ k is_open.
           let route = subst (λ (ys : List (Entry g.row.A.Denot)). All (Held bits) ys → option_map (meant bits) found ≡ longest (map (meant bits) ys) a)
-          c.as-slice.ensures.value c.longest-match-route.ensures.value k.held in
-          let path = subst (λ (ss : List ℕ). c.path-nodes-path.result ≡ count (needed rs a) (offsets ss)) c.as-slice-3.ensures.value
-          (subst (λ (ys : List (Entry g.row.A.Denot)). All (Held bits) ys → c.path-nodes-path.result ≡ count (needed (map (meant bits) ys) a) (offsets c.as-slice-3.result.now))
-          c.as-slice-2.ensures.value c.path-nodes-path.ensures k.held) in
+          c.as_slice.ensures.value c.longest_match-route.ensures.value k.held in
+          let path = subst (λ (ss : List ℕ). c.path_nodes-path.result ≡ count (needed rs a) (offsets ss)) c.as_slice-3.ensures.value
+          (subst (λ (ys : List (Entry g.row.A.Denot)). All (Held bits) ys → c.path_nodes-path.result ≡ count (needed (map (meant bits) ys) a) (offsets c.as_slice-3.result.now))
+          c.as_slice-2.ensures.value c.path_nodes-path.ensures k.held) in
           let ok = subst (λ (w : ℕ). plan_ok w plan ≡ true) (sym (g.met.A.Address.long c.args.address.now)) (k.planned is_open) in
           ap₂ (λ o n. matched o n) route (path ∙ sym (path_counted a plan rs ok));
       sound = λ k. subst (λ (ys : List (Entry g.row.A.Denot)). All (Held bits) ys → MaybeHeld bits found)
-          c.as-slice.ensures.value c.longest-match-route.ensures.sound k.held;
+          c.as_slice.ensures.value c.longest_match-route.ensures.sound k.held;
     }

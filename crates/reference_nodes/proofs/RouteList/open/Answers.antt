@@ -13,11 +13,11 @@ use Rattle.model.specs.Routes.{Routes, Ascending}
 use Rattle.reference_nodes.specs.Shown.{meant, shown, Held}
 use Rattle.reference_nodes.proofs.RouteList.open.Goals as goal
 
-pub invariant-of-self : goal.invariant-of-self
-invariant-of-self g c =
-    let few = (planned c.bit-count.result c.args.strides.now (sym c.if-not-is-plan.ensures)).few in
-    let made = c.in_ok-plan.ensures.made in
-    (omega arith, (omega arith, tt))
+pub invariant_of-self : goal.invariant_of-self
+invariant_of-self g c =
+    let few = (planned c.bit_count.result c.args.strides.now (sym c.if-not-is_plan.ensures)).few in
+    let made = c.in_ok-plan.ensures.len in
+    record { enough = omega arith; short = omega arith }
 
 pub returns : goal.returns
 returns g c =
@@ -27,7 +27,7 @@ returns g c =
     let plan = c.in_ok-plan.plan in
     let is = c.in_ok-plan.ensures.items in
     let none = c.clear.ensures.items in
-    let ok : plan_ok W strides ≡ true = ap (λ (w : ℕ). plan_ok w strides) (sym c.bit-count.ensures) ∙ sym c.if-not-is-plan.ensures in
+    let ok : plan_ok W strides ≡ true = ap (λ (w : ℕ). plan_ok w strides) (sym c.bit_count.ensures) ∙ sym c.if-not-is_plan.ensures in
     let some : leb 1 c.args.self.now.nodes ≡ true = le-leb 1 c.args.self.now.nodes (omega arith) in
     let so = open_granted W c.args.self.now.nodes (shown bits c.args.self.now) strides ok some in
     let empty : map (meant bits) (vec_items c.clear.new.self) ≡ [] = ap (map (meant bits)) none in

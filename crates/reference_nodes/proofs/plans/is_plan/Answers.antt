@@ -5,11 +5,11 @@ use Rattle.model.specs.Plans.{sum, in_range}
 use Rattle.reference_nodes.proofs.Strides.{plan_size, plan_range, plan_sum, range_stop, range_more, sum_more}
 use Rattle.reference_nodes.proofs.plans.is_plan.Goals as goal
 
-pub returns-then-is-empty : goal.returns-then-is-empty
-returns-then-is-empty c =
+pub returns-then-is_empty : goal.returns-then-is_empty
+returns-then-is_empty c =
     let ss = c.args.strides.now in
     plan_size c.args.width ss
-    (⊎_elim (λ e. inl (eqb-true (length ss) 0 (sym c.is-empty.ensures ∙ e))) (λ e. inr e.1) c.then-is-empty.either)
+    (⊎_elim (λ e. inl (eqb-true (length ss) 0 (sym c.is_empty.ensures ∙ e))) (λ e. inr e.1) c.then-is_empty.either)
 
 pub returns-then-stride-lt1 : goal.returns-then-stride-lt1
 returns-then-stride-lt1 c =
@@ -32,6 +32,6 @@ returns c =
     let ss = c.args.strides.now in
     let gone = drop_all c.loop-i.i ss c.loop-i-test.false in
     let all : sum ss ≡ c.loop-i.sum = omega (arith, c.loop-i.invariant.1, ap sum gone) in
-    let some : 1 ≤ length ss = (let e = eqb-false (length ss) 0 (sym c.if-is-empty.ensures) in omega arith) in
+    let some : 1 ≤ length ss = (let e = eqb-false (length ss) 0 (sym c.if-is_empty.ensures) in omega arith) in
     ap (λ (s : ℕ). eqb s (c.args.width + 1)) (sym all)
     ∙ plan_sum c.args.width ss some c.if-strides-gt32.false (c.loop-i.invariant.2 ∙ ap in_range gone)

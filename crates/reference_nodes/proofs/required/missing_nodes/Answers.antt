@@ -18,7 +18,7 @@ loop-i-preserved g c =
     let n = c.loop-i.nodes in
     let lt = c.loop-i-test.true in
     let rest = offsets_from (o + get_or plan i 0) (drop (i + 1) plan) in
-    let small = c.type-inv.plan i in (
+    let small = c.type_inv.plan i in (
       omega (arith, c.loop-i.invariant.0),
       elim c.if-offset-prefix.branch [
         | then-offset-prefix+then-not-needs w ↦ omega (arith, w.nodes-is, c.loop-i.invariant.1)
