@@ -1,4 +1,6 @@
 //! Addresses: rows of bits of a fixed width, the most significant first. Two kinds, and prefixes of either.
+#![tactic(auto)]
+
 ghost use Rattle.std.specs.Prelude.{◌≡◌, ℕ, ◌+◌, ◌%◌, ◌^◌, ◌≤◌, min, Bool, false, List, length, drop, replicate};
 ghost use Rattle.bits.specs.Rows.{read_group, write_group, clear};
 ghost use Rattle.bits.specs.Order.{order};

@@ -1,4 +1,6 @@
 //! The sixteen refusals, each with its number and word, and the fault that carries one up through the layers.
+#![tactic(auto)]
+
 ghost use Rattle.std.specs.Prelude.{◌≡◌};
 ghost use Rattle.faults.specs.Numbers.{number_of, word_of, meaning_of, layer_word, of_table};
 

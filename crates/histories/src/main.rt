@@ -1,5 +1,7 @@
 //! Long random histories of calls, put to the sorted list of routes and to a scan of an unsorted one; the answers are compared call by call.
 //! The stored output, with a sum over all answers, comes from a third implementation.
+#![tactic(auto)]
+
 mod dice;
 mod scan;
 mod sides;

@@ -1,5 +1,5 @@
 -- In a sound placement each required path has a node of its own, and the free nodes are chained.
-use Rattle.std.proofs.Common.{◌≡◌, ℕ, zero, ◌≤◌, true, false, ◌||◌, eqb, List, [], ◌∷◌, ◌++◌, length, Some, None, sym, refl, ap, ◌∙◌, subst, arith}
+use Rattle.std.proofs.Common.{◌≡◌, ℕ, ◌≤◌, true, false, ◌||◌, eqb, List, [], ◌∷◌, ◌++◌, length, Some, None, sym, refl, ap, ◌∙◌, subst, arith}
 use Rattle.std.proofs.lemmas.Bool.{eq-eqb, eqb-true, or_left, or_parts, or_right}
 use Rattle.bits.specs.Rows.{Bits}
 use Rattle.bits.specs.Order.{same}

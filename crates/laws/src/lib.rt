@@ -1,4 +1,6 @@
 //! What follows from the definitions of `model`: lemmas, in `proofs/`, and the laws, in `specs/`, each named by a function's contract.
+#![tactic(auto)]
+
 ghost use Rattle.laws.specs.Lists.{HistoryLaws, InsertionLaws, RouteLaws};
 ghost use Rattle.laws.specs.Matches.{MatchLaws};
 ghost use Rattle.laws.specs.Messages.{BlockLaws, FollowLaws, LoadLaw, PrefixLaws, SheetLaws};

@@ -8,7 +8,7 @@ use Rattle.model.specs.Bytes.{Bytes, big_endian, in_front}
 use Rattle.model.specs.Calls.{Plain, shut, holding}
 use Rattle.model.specs.Links.{join, follow_block}
 use Rattle.model.specs.Outcomes.{Outcome, and_then, granted, refused, provided}
-use Rattle.model.specs.Reading.{Reader, ◌>>=◌, ◌>>◌, give, bytes, here, number_in}
+use Rattle.model.specs.Reading.{Reader, ◌>>=◌, give, bytes, here, number_in}
 use Rattle.model.specs.Sheets.{sheet_bytes}
 
 abbrev pub width : ℕ

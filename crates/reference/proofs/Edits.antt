@@ -1,5 +1,5 @@
 -- What a granted call leaves of a route list: its plain list, and its routes sound and ascending.
-use Rattle.std.proofs.Common.{◌≡◌, ℕ, suc, ◌+◌, ◌<◌, ◌≤◌, Bool, true, false, cond, leb, List, ◌∷◌, ◌++◌, map, length, get_or, take, drop, set, Some, None, Ok, vec_items, sym, refl, ap, ◌∙◌, arith}
+use Rattle.std.proofs.Common.{◌≡◌, ℕ, suc, ◌<◌, ◌≤◌, Bool, true, false, cond, leb, List, ◌∷◌, ◌++◌, map, length, get_or, take, drop, set, Some, None, Ok, vec_items, sym, refl, ap, ◌∙◌, arith}
 use Rattle.std.proofs.ByRecursion.{All-append, All-take, All-drop, All-set}
 use Rattle.std.proofs.lemmas.List.{map-append, map-set, take-map, drop-map, drop_all}
 use Rattle.std.proofs.lemmas.Bool.{leb-true}
@@ -7,7 +7,7 @@ use Rattle.std.specs.List.{insert, remove, AllByRecursion as All}
 use Rattle.bits.specs.Rows.{Bits}
 use Rattle.bits.specs.Order.{Sound}
 use Rattle.model.specs.Outcomes.{Outcome, granted, and_then}
-use Rattle.model.specs.Routes.{Routes, route, sound, smallest, put}
+use Rattle.model.specs.Routes.{Routes, sound, smallest}
 use Rattle.model.specs.Calls.{Plain, holding, Call, Answer, Done, done, perform, answer, left_by, shut}
 use Rattle.reference.specs.declared.Route.{Route as Entry}
 use Rattle.reference.specs.declared.RouteList.{RouteList}

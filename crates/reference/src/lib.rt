@@ -1,4 +1,6 @@
 //! The second engine: a sorted list of routes, plain rather than fast. It is what the tree of nodes is compared with.
+#![tactic(auto)]
+
 ghost use Rattle.std.specs.Prelude.{◌≡◌};
 ghost use Rattle.reference.specs.declared.Failure.TheVariants.{Refused, NoMemory};
 

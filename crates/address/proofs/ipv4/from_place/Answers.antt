@@ -1,4 +1,4 @@
-use Rattle.std.proofs.Common.{min, ap, ◌∙◌, arith}
+use Rattle.std.proofs.Common.{ap, ◌∙◌, arith}
 use Rattle.bits.specs.Rows.{top}
 use Rattle.bits.proofs.Words.{top_by_steps}
 use Rattle.address.proofs.ipv4.from_place.Goals as goal
