@@ -35,5 +35,5 @@ pub trait AddressText: Address {
     ghost back: { (a : Self) → reads (spelled a) a };
 
     // a text stands for one address at most
-    ghost one: { (t : List ℕ) (a b : Self) → reads t a → reads t b → bits a ≡ bits b };
+    ghost one: { (t : List ℕ) (a b : Self) → reads t a → reads t b → Self.bits a ≡ Self.bits b };
 }

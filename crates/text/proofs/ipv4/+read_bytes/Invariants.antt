@@ -1,4 +1,4 @@
 use Rattle.text.proofs.ipv4.+read_bytes.Given as goal
 
-abbrev pub decreases-read-bytes : goal.decreases-read-bytes
-decreases-read-bytes l = l.dots
+abbrev pub decreases-read_bytes : goal.decreases-read_bytes
+decreases-read_bytes l = l.dots

@@ -8,7 +8,7 @@ use Rattle.text.proofs.number.read_number.Goals as goal
 pub loop-end-init : goal.loop-end-init
 loop-end-init c =
     let xs = c.args.text.now in
-    let some : 0 < length xs = omega (arith, eqb-false (length xs) 0 (sym c.is-empty.ensures ∙ c.if-is-empty.false)) in (
+    let some : 0 < length xs = omega (arith, eqb-false (length xs) 0 (sym c.is_empty.ensures ∙ c.if-is_empty.false)) in (
       omega arith,
       omega arith,
       omega arith,

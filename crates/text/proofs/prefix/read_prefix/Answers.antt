@@ -44,36 +44,36 @@ returns-in-Err-read g c =
       stop = f.stop;
     }
 
-pub returns-in-Ok-read-length : goal.returns-in-Ok-read-length
-returns-in-Ok-read-length g c =
+pub returns-in-Ok-read_length : goal.returns-in-Ok-read_length
+returns-in-Ok-read_length g c =
     let reads = g.A.AddressText.reads in
     let xs = c.args.text.now in
     let i = c.in-Some.slash in
     let h = c.in-Some.ensures in
     let whole : i - 0 ≡ i = omega arith in
-    let p = c.in-Ok-read-length.ensures in
+    let p = c.in-Ok-read_length.ensures in
     let is = prefix_reads reads xs i h c.in-Ok-read.address
     (subst (λ k. reads (take k xs) c.in-Ok-read.address) whole c.in-Ok-read.ensures)
-    c.in-Ok-read-length.length (sym (take_rest xs (i + 1)) ∙ p.0) p.1 in
+    c.in-Ok-read_length.length (sym (take_rest xs (i + 1)) ∙ p.0) p.1 in
     record {
       value = is;
       back = λ a l small e.
           let q = written reads xs a (g.A.AddressText.spelled a) l (g.met.A.AddressText.back a) small e in
-          let same = same_parts reads xs c.in-Ok-read.address a c.in-Ok-read-length.length l is q i h in
+          let same = same_parts reads xs c.in-Ok-read.address a c.in-Ok-read_length.length l is q i h in
           (g.met.A.AddressText.one (take i xs) c.in-Ok-read.address a same.1 same.2, same.0);
       stop = tt;
     }
 
-pub returns-in-Err-read-length : goal.returns-in-Err-read-length
-returns-in-Err-read-length g c =
+pub returns-in-Err-read_length : goal.returns-in-Err-read_length
+returns-in-Err-read_length g c =
     let reads = g.A.AddressText.reads in
     let xs = c.args.text.now in
     let i = c.in-Some.slash in
     let whole : i - 0 ≡ i = omega arith in
-    let p = c.in-Err-read-length.stop.place in
+    let p = c.in-Err-read_length.stop.place in
     let f = no_length reads xs i c.in-Some.ensures c.in-Ok-read.address
     (subst (λ k. reads (take k xs) c.in-Ok-read.address) whole c.in-Ok-read.ensures)
-    p (subst (λ s. Stuck length_text s p) (take_rest xs (i + 1)) c.in-Err-read-length.ensures) in
+    p (subst (λ s. Stuck length_text s p) (take_rest xs (i + 1)) c.in-Err-read_length.ensures) in
     record {
       value = (f.within, f.none);
       back = λ a l small e. f.none a l (written reads xs a (g.A.AddressText.spelled a) l (g.met.A.AddressText.back a) small e);

@@ -7,11 +7,11 @@ pub returns-in-Some : goal.returns-in-Some
 returns-in-Some c =
     let t = c.args.text.now in
     let p = c.in-Some.place in
-    subst (λ o. MatchResult c.read-parted.result (λ a. o ≡ Some (groups a.high a.low)) (λ e. (e.place ≤ length t) × (o ≡ None)))
-    (sym (read_by t (Some (take p t, drop (p + 2) t)) c.in-Some.ensures.1)) c.read-parted.ensures
+    subst (λ o. MatchResult c.read_parted.result (λ a. o ≡ Some (groups a.high a.low)) (λ e. (e.place ≤ length t) × (o ≡ None)))
+    (sym (read_by t (Some (take p t, drop (p + 2) t)) c.in-Some.ensures.1)) c.read_parted.ensures
 
 pub returns-in-None : goal.returns-in-None
 returns-in-None c =
     let t = c.args.text.now in
-    subst (λ o. MatchResult c.read-whole.result (λ a. o ≡ Some (groups a.high a.low)) (λ e. (e.place ≤ length t) × (o ≡ None)))
-    (sym (read_by t None c.in-None.ensures)) c.read-whole.ensures
+    subst (λ o. MatchResult c.read_whole.result (λ a. o ≡ Some (groups a.high a.low)) (λ e. (e.place ≤ length t) × (o ≡ None)))
+    (sym (read_by t None c.in-None.ensures)) c.read_whole.ensures

@@ -4,28 +4,28 @@ use Rattle.text.specs.Words.{side, Beyond}
 use Rattle.text.specs.Addresses.{filled_both, filled_right}
 use Rattle.text.proofs.ipv6.read.read_parted.Goals as goal
 
-pub returns-in-Ok-read-side : goal.returns-in-Ok-read-side
-returns-in-Ok-read-side c =
+pub returns-in-Ok-read_side : goal.returns-in-Ok-read_side
+returns-in-Ok-read_side c =
     let t = c.args.text.now in
     let p = c.args.place in
     let same : p ≡ p - 0 = omega arith in
     let left = c.in-Ok.ensures in
-    let right = c.in-Ok-read-side.ensures in
-    filled_both (side (take p t)) (side (drop (p + 2) t)) c.in-Ok.left.count c.in-Ok-read-side.right.count c.in-Ok.left.number c.in-Ok-read-side.right.number
-    c.from-number.result.high c.from-number.result.low
+    let right = c.in-Ok-read_side.ensures in
+    filled_both (side (take p t)) (side (drop (p + 2) t)) c.in-Ok.left.count c.in-Ok-read_side.right.count c.in-Ok.left.number c.in-Ok-read_side.right.number
+    c.from_number.result.high c.from_number.result.low
     (ap (λ n. side (take n t)) same ∙ left.0)
     (ap side (sym (take_rest t (p + 2))) ∙ right.0)
     (omega (arith, left.1, right.1))
     right.2
-    (c.from-number.ensures ∙ c.spread.ensures)
+    (c.from_number.ensures ∙ c.spread.ensures)
 
-pub returns-in-Err-read-side : goal.returns-in-Err-read-side
-returns-in-Err-read-side c =
+pub returns-in-Err-read_side : goal.returns-in-Err-read_side
+returns-in-Err-read_side c =
     let t = c.args.text.now in
     let p = c.args.place in
     let same : p ≡ p - 0 = omega arith in
     let left = c.in-Ok.ensures in
-    let right = c.in-Err-read-side.ensures in
+    let right = c.in-Err-read_side.ensures in
     let l = length-drop (p + 2) t in
     let q = ap length (take_rest t (p + 2)) in (
       omega (arith, right.0, c.requires),

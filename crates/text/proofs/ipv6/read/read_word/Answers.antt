@@ -5,8 +5,8 @@ use Rattle.text.proofs.ipv6.read.read_word.Goals as goal
 pub loop-i-init : goal.loop-i-init
 loop-i-init c = (omega arith, omega arith, digit_none c.args.text.now)
 
-pub returns-then-i-eq-MOST-DIGITS : goal.returns-then-i-eq-MOST-DIGITS
-returns-then-i-eq-MOST-DIGITS c = (omega arith, word_long c.args.text.now (omega arith))
+pub returns-then-i-eq-MOST_DIGITS : goal.returns-then-i-eq-MOST_DIGITS
+returns-then-i-eq-MOST_DIGITS c = (omega arith, word_long c.args.text.now (omega arith))
 
 pub returns-in_default : goal.returns-in_default
 returns-in_default c =

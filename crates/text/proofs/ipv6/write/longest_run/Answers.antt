@@ -15,7 +15,7 @@ loop-i-preserved c =
     let inside : i ≤ length gs = omega (arith, c.loop-i.invariant.run_within) in
     let is : (c.if-all-i-eq0.count ≡ zeros (drop (i - 1) gs)) × (i - 1 + c.if-all-i-eq0.count ≤ length gs) =
     elim c.if-all-i-eq0.branch [
-      | then-all-i-eq0 w ↦ run_more gs (i - 1) i _ _ _ at inside c.loop-i.invariant _ w.if-all-i-eq0.true w.count_is
-      | else-all-i-eq0 w ↦ run_end gs (i - 1) i _ _ _ at inside c.loop-i.invariant _ w.if-all-i-eq0.false w.count_is
+      | then-all-i-eq0 w ↦ run_more gs (i - 1) i _ _ _ at inside c.loop-i.invariant _ w.if-all-i-eq0.true w.count-is
+      | else-all-i-eq0 w ↦ run_end gs (i - 1) i _ _ _ at inside c.loop-i.invariant _ w.if-all-i-eq0.false w.count-is
     ] in
-    seen_more gs (i - 1) i _ _ _ at inside c.loop-i.invariant _ is _ _ c.longer-run-best.ensures.place c.longer-run-best.ensures.count
+    seen_more gs (i - 1) i _ _ _ at inside c.loop-i.invariant _ is _ _ c.longer_run-best.ensures.place c.longer_run-best.ensures.count

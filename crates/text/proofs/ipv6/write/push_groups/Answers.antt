@@ -13,13 +13,13 @@ unfolding encode
 loop-group-preserved c =
     let gs = c.args.all.now in
     let rest = take (length gs - 1) (drop 1 gs) in
-    let i = c.loop-group.group_index in
-    written_more (string_bytes c.push-hex.new.out) rest i _ c.loop-group-test.true
-    (c.in_ok-push-hex-2.ensures
+    let i = c.loop-group.group-index in
+    written_more (string_bytes c.push_hex.new.out) rest i _ c.loop-group-test.true
+    (c.in_ok-push_hex-2.ensures
     ∙ ap (λ b. b ++ hex (get_or rest i 0)) (pushed (58 ∷ []) c.loop-group.invariant c.in_ok-push.was c.push.ensures.bytes))
 
 pub returns : goal.returns
 returns c =
     let gs = c.args.all.now in
-    written_all (string_bytes c.args.out.now) gs (take (length gs - 1) (drop 1 gs)) c.loop-group.group_index _ _ (omega (arith, ltb-false)) refl c.loop-group-test.false
-    c.in_ok-push-hex.ensures c.loop-group.invariant
+    written_all (string_bytes c.args.out.now) gs (take (length gs - 1) (drop 1 gs)) c.loop-group.group-index _ _ (omega (arith, ltb-false)) refl c.loop-group-test.false
+    c.in_ok-push_hex.ensures c.loop-group.invariant
