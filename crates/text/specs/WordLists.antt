@@ -1,5 +1,5 @@
 -- The words of a text, one after another.
-use Rattle.std.specs.Prelude.{◌≡◌, ℕ, suc, ◌+◌, ◌-◌, ◌<◌, ◌≤◌, true, false, cond, List, [], ◌∷◌, ◌++◌, length, take, drop, Some, None, Option, ◌==◌, ◌≢◌, slice_index, refl}
+use Rattle.std.specs.Prelude.{◌≡◌, ℕ, suc, ◌+◌, ◌<◌, ◌≤◌, true, false, cond, List, [], ◌∷◌, ◌++◌, length, take, drop, Some, None, Option, ◌==◌, ◌≢◌, slice_index, refl}
 use Rattle.std.proofs.Common.{sym, ap, subst, ◌∙◌, append_assoc, append-nil, arith, length-append}
 use Rattle.std.proofs.lemmas.Bool.{ne_eqb}
 use Rattle.std.proofs.lemmas.List.{drop_more, take-append-drop, take_all, get_or-take, length-take-le}
@@ -58,16 +58,16 @@ words_first w r p = words_glued w (58 ∷ r) p ∙ ap (glued w) (words_colon r) 
 -- ---- the first word of a text: n bytes up to a colon, or all
 
 module _ (t : List ℕ) (n : ℕ) (within : n ≤ length t) (plain : (k : ℕ) → k < n → slice_index t k ≢ 58) where
-  front : Plain (take n t)
-  front = plain_from_places (take n t) (λ k l e. let h : k < n = (let q = length-take-le n t within in omega arith) in plain k h (sym (get_or-take n t k 0 h) ∙ e))
+  plain_front : Plain (take n t)
+  plain_front = plain_from_places (take n t) (λ k l e. let h : k < n = (let q = length-take-le n t within in omega arith) in plain k h (sym (get_or-take n t k 0 h) ∙ e))
 
   pub words_all : n ≡ length t → words t ≡ take n t ∷ []
-  words_all e = ap words (sym (take_all n t (omega arith))) ∙ words_last (take n t) front
+  words_all e = ap words (sym (take_all n t (omega arith))) ∙ words_last (take n t) plain_front
 
   pub words_some : n < length t → slice_index t n ≡ 58 → words t ≡ take n t ∷ words (drop (n + 1) t)
   words_some l e =
       ap words (sym (take-append-drop n t) ∙ ap (λ r. take n t ++ r) (drop_more t n 0 l ∙ ap (λ c. c ∷ drop (n + 1) t) e))
-      ∙ words_first (take n t) (drop (n + 1) t) front
+      ∙ words_first (take n t) (drop (n + 1) t) plain_front
 
 -- ---- numbers
 

@@ -1,4 +1,6 @@
 //! Addresses and prefixes as people type them.
+#![tactic(auto)]
+
 ghost use Rattle.std.specs.Prelude.{◌≡◌, ℕ, ◌≤◌, List, length, IfOk, string_bytes, MatchResult};
 
 use address::Address;
