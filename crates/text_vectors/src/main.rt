@@ -1,5 +1,7 @@
 //! Reads addresses and prefixes from standard input, one on a line after its kind (4, 6, 4/ or 6/), and writes what each reads as.
 //! The stored input has the examples of the canonical rules and many random texts; the stored output comes from another implementation.
+#![tactic(auto)]
+
 use address::ipv4::Ipv4;
 use address::ipv6::Ipv6;
 use anyhow::anyhow;
