@@ -1,6 +1,5 @@
 -- What a call that failed leaves.
 use Rattle.std.proofs.Common.{◌≡◌, ℕ, Bool, true, false, leb, List, IfOk, Ok, Err, Result, refl, arith}
-use Rattle.model.specs.Outcomes.{refused}
 use Rattle.model.specs.Plans.{plan_ok}
 use Rattle.model.specs.Calls.{Plain, shut, holding, open_with, opened, answer, after}
 use Rattle.reference.specs.declared.Failure.{Failure}

@@ -1,5 +1,5 @@
 -- Words and blanks in a line of bytes. A blank is a space or a control byte.
-use Rattle.std.specs.Prelude.{◌≡◌, ℕ, ◌-◌, ◌<◌, ◌≤◌, true, false, List, length, nat_le, slice_index, slice_range}
+use Rattle.std.specs.Prelude.{◌≡◌, ℕ, ◌<◌, ◌≤◌, true, false, List, length, nat_le, slice_index, slice_range}
 
 -- the bytes from one place to another are blanks
 abbrev pub Blank : List ℕ → ℕ → ℕ → Type 0

@@ -1,4 +1,6 @@
 //! The console: reads commands from standard input, one on a line, and answers each in words.
+#![tactic(auto)]
+
 mod answers;
 mod command;
 mod session;

@@ -1,6 +1,6 @@
 -- The plain list that a route list stands for, and what its results say.
 use Rattle.std.specs.Prelude.{◌≡◌, ℕ, ◌≤◌, Bool, true, cond, map, Some, None, Ok, Err, vec_items, Option, Result, nat_le}
-use Rattle.std.specs.List.{AllByRecursion as All}
+use Rattle.std.specs.List.{AllByRecursion}
 use Rattle.address.specs.declared.prefix.Prefix.{Prefix}
 use Rattle.bits.specs.Rows.{Bits}
 use Rattle.bits.specs.Order.{Sound}
@@ -50,7 +50,7 @@ module _ {X : Type 0} (bits : X → Bits) where
   -- what every route list made here has: its routes ascend, and each is sound
   pub record Keeps (t : RouteList X) : Type 0 where
     pub ascends : Ascending (routes_of t)
-    pub held : All Held (vec_items t.routes)
+    pub held : AllByRecursion Held (vec_items t.routes)
 
 module _ {T : Type 0} where
   -- A result says what the call comes to in the model. Want of memory is answered only where the model grants the call.

@@ -1,6 +1,6 @@
 ghost use Rattle.std.specs.Prelude.{◌≡◌, ◌<◌, ◌≤◌, map, length, MatchResult};
 ghost use Rattle.std.specs.Option.{option_map};
-ghost use Rattle.std.specs.List.{AllByRecursion as All};
+ghost use Rattle.std.specs.List.{AllByRecursion};
 ghost use Rattle.bits.specs.Order.{Sound};
 ghost use Rattle.model.specs.Routes.{Ascending, longer, longest};
 ghost use Rattle.reference.specs.Shown.{prefix_bits, meant, Held, MaybeHeld};
@@ -14,7 +14,7 @@ use std::cmp::Ordering;
 // The index of the route of a prefix, or else the index at which it belongs.
 pub(crate) fn place<A: Address>(routes: &[Route<A>], prefix: &Prefix<A>) -> Result<usize, usize>
     ensures within { MatchResult result (λ i. i < length routes.now) (λ i. i ≤ length routes.now) }
-    ensures cases { All (Held A.Address.bits) routes.now → Ascending (map (meant A.Address.bits) routes.now) → Sound (A.Address.bits prefix.now.address) prefix.now.length → MatchResult result (Hit (map (meant A.Address.bits) routes.now) (prefix_bits A.Address.bits prefix.now)) (Miss (map (meant A.Address.bits) routes.now) (prefix_bits A.Address.bits prefix.now)) }
+    ensures cases { AllByRecursion (Held A.Address.bits) routes.now → Ascending (map (meant A.Address.bits) routes.now) → Sound (A.Address.bits prefix.now.address) prefix.now.length → MatchResult result (Hit (map (meant A.Address.bits) routes.now) (prefix_bits A.Address.bits prefix.now)) (Miss (map (meant A.Address.bits) routes.now) (prefix_bits A.Address.bits prefix.now)) }
 {
     for i in 0..routes.len() {
         let held = routes[i].prefix;
@@ -43,8 +43,8 @@ fn longer<A: Address>(route: Route<A>, other: Option<Route<A>>) -> Option<Route<
 
 // The route with the longest prefix that matches the address.
 pub(crate) fn longest_match<A: Address>(routes: &[Route<A>], address: &A) -> Option<Route<A>>
-    ensures value { All (Held A.Address.bits) routes.now → option_map (meant A.Address.bits) result ≡ longest (map (meant A.Address.bits) routes.now) (A.Address.bits address.now) }
-    ensures sound { All (Held A.Address.bits) routes.now → MaybeHeld A.Address.bits result }
+    ensures value { AllByRecursion (Held A.Address.bits) routes.now → option_map (meant A.Address.bits) result ≡ longest (map (meant A.Address.bits) routes.now) (A.Address.bits address.now) }
+    ensures sound { AllByRecursion (Held A.Address.bits) routes.now → MaybeHeld A.Address.bits result }
 {
     let mut best: Option<Route<A>> = None;
     let mut i = routes.len();

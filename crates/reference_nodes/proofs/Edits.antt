@@ -3,7 +3,7 @@ use Rattle.std.proofs.Common.{◌≡◌, ℕ, suc, ◌<◌, ◌≤◌, Bool, tru
 use Rattle.std.proofs.ByRecursion.{All-append, All-take, All-drop, All-set}
 use Rattle.std.proofs.lemmas.List.{map-append, map-set, take-map, drop-map, drop_all}
 use Rattle.std.proofs.lemmas.Bool.{leb-true}
-use Rattle.std.specs.List.{insert, remove, AllByRecursion as All}
+use Rattle.std.specs.List.{insert, remove, AllByRecursion}
 use Rattle.address.specs.declared.Address.{Ghosts}
 use Rattle.bits.specs.Rows.{Bits}
 use Rattle.bits.specs.Order.{Sound}
@@ -84,14 +84,14 @@ module _ {X : Type 0} (bits : X → Bits) where
         ∙ ap (λ (q : Routes). q ++ map (meant bits) (drop (suc i) xs)) (sym (take-map (meant bits) i xs))
         ∙ ap (λ (q : Routes). take i (map (meant bits) xs) ++ q) (sym (drop-map (meant bits) (suc i) xs))
 
-    pub held_inserted : All (Held bits) xs → Held bits x → All (Held bits) (insert xs i x)
+    pub held_inserted : AllByRecursion (Held bits) xs → Held bits x → AllByRecursion (Held bits) (insert xs i x)
     held_inserted all one =
         All-append (Held bits) (take i xs) (x ∷ drop i xs) (All-take (Held bits) i xs all) (one, All-drop (Held bits) i xs all)
 
-    pub held_set : All (Held bits) xs → Held bits x → All (Held bits) (set xs i x)
+    pub held_set : AllByRecursion (Held bits) xs → Held bits x → AllByRecursion (Held bits) (set xs i x)
     held_set all one = All-set (Held bits) xs i x one all
 
-    pub held_removed : All (Held bits) xs → All (Held bits) (remove xs i)
+    pub held_removed : AllByRecursion (Held bits) xs → AllByRecursion (Held bits) (remove xs i)
     held_removed all =
         All-append (Held bits) (take i xs) (drop (suc i) xs) (All-take (Held bits) i xs all) (All-drop (Held bits) (suc i) xs all)
 

@@ -1,7 +1,7 @@
 -- The plain list that a route list stands for, and what its results say.
 use Rattle.std.specs.Prelude.{◌≡◌, ℕ, ◌≤◌, Bool, true, cond, map, Some, None, Ok, Err, vec_items, Option, Result, nat_le}
 use Rattle.std.specs.Option.{option_map}
-use Rattle.std.specs.List.{AllByRecursion as All}
+use Rattle.std.specs.List.{AllByRecursion}
 use Rattle.address.specs.declared.Address.{Ghosts}
 use Rattle.address.specs.declared.prefix.Prefix.{Prefix}
 use Rattle.bits.specs.Rows.{Bits}
@@ -66,7 +66,7 @@ module _ {X : Type 0} (bits : X → Bits) where
     -- are counted.
     pub record Keeps (W : ℕ) (t : RouteList X G) : Type 0 where
       pub ascends : Ascending (routes_of t)
-      pub held : All Held (vec_items t.routes)
+      pub held : AllByRecursion Held (vec_items t.routes)
       pub planned : t.opened ≡ true → plan_ok W (vec_items t.plan) ≡ true
       pub counted : t.opened ≡ true → t.required ≡ required (vec_items t.plan) (routes_of t)
 

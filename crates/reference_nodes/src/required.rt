@@ -1,5 +1,5 @@
 ghost use Rattle.std.specs.Prelude.{◌≡◌, ◌≤◌, map, length};
-ghost use Rattle.std.specs.List.{AllByRecursion as All};
+ghost use Rattle.std.specs.List.{AllByRecursion};
 ghost use Rattle.model.specs.Plans.{offsets};
 ghost use Rattle.laws.specs.Counts.{count, missing, needed, shared};
 ghost use Rattle.reference_nodes.specs.Shown.{meant, Held};
@@ -10,7 +10,7 @@ use address::prefix::Prefix;
 
 // Whether one of the routes has a prefix of at least so many bits that begins as the address does.
 fn shares<A: Address>(routes: &[Route<A>], address: &A, offset: u32) -> bool
-    ensures { All (Held A.Address.bits) routes.now → result ≡ shared (map (meant A.Address.bits) routes.now) (A.Address.bits address.now) offset }
+    ensures { AllByRecursion (Held A.Address.bits) routes.now → result ≡ shared (map (meant A.Address.bits) routes.now) (A.Address.bits address.now) offset }
 {
     let front = Prefix {
         address: *address,
@@ -27,7 +27,7 @@ fn shares<A: Address>(routes: &[Route<A>], address: &A, offset: u32) -> bool
 
 // Whether the routes require the node that the first bits of an address lead to, so many: the root, or one that is shared.
 fn needs<A: Address>(routes: &[Route<A>], address: &A, offset: u32) -> bool
-    ensures { All (Held A.Address.bits) routes.now → result ≡ needed (map (meant A.Address.bits) routes.now) (A.Address.bits address.now) offset }
+    ensures { AllByRecursion (Held A.Address.bits) routes.now → result ≡ needed (map (meant A.Address.bits) routes.now) (A.Address.bits address.now) offset }
 {
     offset == 0 || shares(routes, address, offset)
 }
@@ -39,7 +39,7 @@ pub(crate) fn missing_nodes<A: Address>(
     prefix: &Prefix<A>,
 ) -> usize
     requires { length plan.now ≤ 32 }
-    ensures { All (Held A.Address.bits) routes.now → result ≡ count (missing (map (meant A.Address.bits) routes.now) (A.Address.bits prefix.now.address) prefix.now.length) (offsets plan.now) }
+    ensures { AllByRecursion (Held A.Address.bits) routes.now → result ≡ count (missing (map (meant A.Address.bits) routes.now) (A.Address.bits prefix.now.address) prefix.now.length) (offsets plan.now) }
 {
     let mut offset: u32 = 0;
     let mut nodes: usize = 0;
@@ -55,7 +55,7 @@ pub(crate) fn missing_nodes<A: Address>(
 // How many of the nodes that the routes require lie on the way of an address.
 pub(crate) fn path_nodes<A: Address>(routes: &[Route<A>], plan: &[u8], address: &A) -> usize
     requires { length plan.now ≤ 32 }
-    ensures { All (Held A.Address.bits) routes.now → result ≡ count (needed (map (meant A.Address.bits) routes.now) (A.Address.bits address.now)) (offsets plan.now) }
+    ensures { AllByRecursion (Held A.Address.bits) routes.now → result ≡ count (needed (map (meant A.Address.bits) routes.now) (A.Address.bits address.now)) (offsets plan.now) }
 {
     let mut offset: u32 = 0;
     let mut nodes: usize = 0;

@@ -1,5 +1,5 @@
 use Rattle.std.proofs.Common.{◌≡◌, ◌<◌, List, map, length, Some, vec_items, sym, refl, ap, ◌∙◌, subst}
-use Rattle.std.specs.List.{AllByRecursion as All}
+use Rattle.std.specs.List.{AllByRecursion}
 use Rattle.bits.specs.Order.{Sound}
 use Rattle.model.specs.Routes.{Route, Ascending, without}
 use Rattle.reference.specs.declared.Route.{Route as Entry}
@@ -25,7 +25,7 @@ returns-in-Ok g c =
     let i = c.in-Ok.i in
     let inside : i < length xs = subst (λ (ys : List (Entry g.row.A.Denot)). i < length ys) c.as_slice.ensures.value c.in-Ok.ensures.within in
     let hit : Keeps bits t → Hit (map (meant bits) xs) p i =
-    λ k. subst (λ (ys : List (Entry g.row.A.Denot)). All (Held bits) ys → Ascending (map (meant bits) ys) → Sound a l → Hit (map (meant bits) ys) p i)
+    λ k. subst (λ (ys : List (Entry g.row.A.Denot)). AllByRecursion (Held bits) ys → Ascending (map (meant bits) ys) → Sound a l → Hit (map (meant bits) ys) p i)
     c.as_slice.ensures.value c.in-Ok.ensures.cases k.held k.ascends sound in
     let rs = map (meant bits) xs in
     let W = g.A.Address.width in
@@ -41,7 +41,7 @@ returns-in-Ok g c =
       after = λ k. then_shown bits W t (delete a l) ok.is_open (deleted x.hop) (without rs p) (so k) items (left k);
       keeps = λ k. record {
         ascends = subst Ascending (sym (left k)) (without_ascends rs p k.ascends);
-        held = subst (All (Held bits)) (sym c.remove-old.ensures.items) (held_removed bits xs i x k.held);
+        held = subst (AllByRecursion (Held bits)) (sym c.remove-old.ensures.items) (held_removed bits xs i x k.held);
       };
       size = refl;
     }

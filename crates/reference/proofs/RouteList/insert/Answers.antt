@@ -1,5 +1,5 @@
 use Rattle.std.proofs.Common.{◌≡◌, ℕ, ◌<◌, true, leb, List, map, length, set, Some, vec_items, sym, refl, ap, ◌∙◌, subst, arith}
-use Rattle.std.specs.List.{AllByRecursion as All}
+use Rattle.std.specs.List.{AllByRecursion}
 use Rattle.bits.specs.Order.{Sound}
 use Rattle.model.specs.Routes.{Route, Ascending, put, find}
 use Rattle.reference.specs.declared.Route.{Route as Entry}
@@ -28,7 +28,7 @@ returns-in-Ok g c =
     let i = c.in-Ok.i in
     let inside : i < length xs = subst (λ (ys : List (Entry g.row.A.Denot)). i < length ys) c.as_slice.ensures.value c.in-Ok.ensures.within in
     let hit : Keeps bits t → Hit (map (meant bits) xs) p i =
-    λ k. subst (λ (ys : List (Entry g.row.A.Denot)). All (Held bits) ys → Ascending (map (meant bits) ys) → Sound a l → Hit (map (meant bits) ys) p i)
+    λ k. subst (λ (ys : List (Entry g.row.A.Denot)). AllByRecursion (Held bits) ys → Ascending (map (meant bits) ys) → Sound a l → Hit (map (meant bits) ys) p i)
     c.as_slice.ensures.value c.in-Ok.ensures.cases k.held k.ascends sound in
     let rs = map (meant bits) xs in
     let W = g.A.Address.width in
@@ -66,7 +66,7 @@ returns-in_ok-insert-in-Err g c =
     let sound = sound_when g.A.Address.width a l (g.met.A.Address.long c.args.prefix.address) ok.short ok.clean in
     let i = c.in-Err.i in
     let miss : Keeps bits t → Miss (map (meant bits) xs) p i =
-    λ k. subst (λ (ys : List (Entry g.row.A.Denot)). All (Held bits) ys → Ascending (map (meant bits) ys) → Sound a l → Miss (map (meant bits) ys) p i)
+    λ k. subst (λ (ys : List (Entry g.row.A.Denot)). AllByRecursion (Held bits) ys → Ascending (map (meant bits) ys) → Sound a l → Miss (map (meant bits) ys) p i)
     c.as_slice.ensures.value c.in-Err.ensures.cases k.held k.ascends sound in
     let rs = map (meant bits) xs in
     let W = g.A.Address.width in
@@ -85,7 +85,7 @@ returns-in_ok-insert-in-Err g c =
       after = λ k. then_shown bits W t (insert a l h) ok.is_open (inserted (find rs p)) (put rs p h) so items (left k);
       keeps = λ k. record {
         ascends = subst Ascending (sym (left k)) (put_ascends rs p h k.ascends);
-        held = subst (All (Held bits)) (sym then) (held_inserted bits xs i x k.held one);
+        held = subst (AllByRecursion (Held bits)) (sym then) (held_inserted bits xs i x k.held one);
       };
       size = refl;
       memory = λ e. absurd (let z : ◌≡◌ {A = ℕ} 0 1 = cc in omega arith);

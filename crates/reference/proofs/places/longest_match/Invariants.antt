@@ -1,6 +1,6 @@
 use Rattle.std.proofs.Common.{◌≡◌, ◌≤◌, map, length, drop}
 use Rattle.std.specs.Option.{option_map}
-use Rattle.std.specs.List.{AllByRecursion as All}
+use Rattle.std.specs.List.{AllByRecursion}
 use Rattle.model.specs.Routes.{longest}
 use Rattle.reference.specs.Shown.{meant, Held, MaybeHeld}
 use Rattle.reference.proofs.places.longest_match.Given as goal
@@ -9,7 +9,7 @@ abbrev pub invariant-loop-i : goal.invariant-loop-i
 invariant-loop-i g l =
     let bits = g.A.Address.bits in
     (l.i ≤ length l.routes)
-    × (All (Held bits) l.routes
+    × (AllByRecursion (Held bits) l.routes
     → (option_map (meant bits) l.best ≡ longest (drop l.i (map (meant bits) l.routes)) (bits l.address)) × MaybeHeld bits l.best)
 
 abbrev pub decreases-loop-i : goal.decreases-loop-i

@@ -1,5 +1,5 @@
 use Rattle.std.proofs.Common.{map, take}
-use Rattle.std.specs.List.{AllByRecursion as All}
+use Rattle.std.specs.List.{AllByRecursion}
 use Rattle.bits.specs.Order.{Sound}
 use Rattle.laws.proofs.Places.{Below}
 use Rattle.reference.specs.Shown.{prefix_bits, meant, Held}
@@ -8,4 +8,4 @@ use Rattle.reference.proofs.places.place.Given as goal
 abbrev pub invariant-loop-i : goal.invariant-loop-i
 invariant-loop-i g l =
     let bits = g.A.Address.bits in
-    All (Held bits) l.routes → Sound (bits l.prefix.address) l.prefix.length → Below (prefix_bits bits l.prefix) (take l.i (map (meant bits) l.routes))
+    AllByRecursion (Held bits) l.routes → Sound (bits l.prefix.address) l.prefix.length → Below (prefix_bits bits l.prefix) (take l.i (map (meant bits) l.routes))

@@ -1,5 +1,5 @@
 use Rattle.std.proofs.Common.{◌≡◌, ℕ, ◌+◌, ◌-◌, ◌<◌, List, map, length, Some, vec_items, sym, refl, ap, ◌∙◌, subst, arith}
-use Rattle.std.specs.List.{AllByRecursion as All}
+use Rattle.std.specs.List.{AllByRecursion}
 use Rattle.bits.specs.Order.{Sound}
 use Rattle.faults.specs.declared.Fault.{Fault}
 use Rattle.faults.specs.Numbers.{number_of}
@@ -37,7 +37,7 @@ returns-in-Ok g c =
     let i = c.in-Ok.i in
     let inside : i < length xs = subst (λ (ys : List (Entry g.row.A.Denot)). i < length ys) c.as_slice.ensures.value c.in-Ok.ensures.within in
     let hit : Keeps bits W t → Hit rs p i =
-    λ k. subst (λ (ys : List (Entry g.row.A.Denot)). All (Held bits) ys → Ascending (map (meant bits) ys) → Sound a l → Hit (map (meant bits) ys) p i)
+    λ k. subst (λ (ys : List (Entry g.row.A.Denot)). AllByRecursion (Held bits) ys → Ascending (map (meant bits) ys) → Sound a l → Hit (map (meant bits) ys) p i)
     c.as_slice.ensures.value c.in-Ok.ensures.cases k.held k.ascends sound in
     let x = c.remove-old.result in
     let there : Keeps bits W t → find rs p ≡ Some x.hop =
@@ -48,13 +48,13 @@ returns-in-Ok g c =
     let items = vec_items c.remove-old.new.self in
     let left : Keeps bits W t → map (meant bits) items ≡ without rs p =
     λ k. ap (map (meant bits)) c.remove-old.ensures.items ∙ meant_removed bits xs i x ∙ sym (hit k).takes in
-    let still : Keeps bits W t → All (Held bits) items =
-    λ k. subst (All (Held bits)) (sym c.remove-old.ensures.items) (held_removed bits xs i x k.held) in
+    let still : Keeps bits W t → AllByRecursion (Held bits) items =
+    λ k. subst (AllByRecursion (Held bits)) (sym c.remove-old.ensures.items) (held_removed bits xs i x k.held) in
     let n = c.missing_nodes-returned.result in
     let returned : Keeps bits W t → n ≡ count (missing (without rs p) a l) (offsets plan) =
     λ k. subst (λ (qs : Routes). n ≡ count (missing qs a l) (offsets plan)) (left k)
     (subst (λ (ss : List ℕ). n ≡ count (missing (map (meant bits) items) a l) (offsets ss)) c.as_slice-in-Ok-2.ensures.value
-    (subst (λ (ys : List (Entry g.row.A.Denot)). All (Held bits) ys → n ≡ count (missing (map (meant bits) ys) a l) (offsets c.as_slice-in-Ok-2.result.now))
+    (subst (λ (ys : List (Entry g.row.A.Denot)). AllByRecursion (Held bits) ys → n ≡ count (missing (map (meant bits) ys) a l) (offsets c.as_slice-in-Ok-2.result.now))
     c.as_slice-in-Ok.ensures.value c.missing_nodes-returned.ensures (still k))) in
     let sums : Keeps bits W t → t.required ≡ required plan (without rs p) + n =
     λ k. returned_are bits W t c.args.prefix long ok.short ok.is_open k n x.hop (there k) (returned k) in
@@ -86,7 +86,7 @@ returns-in-Err g c =
     let long = g.met.A.Address.long c.args.prefix.address in
     let sound = sound_when W a l long ok.short ok.clean in
     let miss : Keeps bits W t → Miss rs p c.in-Err.field-0 =
-    λ k. subst (λ (ys : List (Entry g.row.A.Denot)). All (Held bits) ys → Ascending (map (meant bits) ys) → Sound a l → Miss (map (meant bits) ys) p c.in-Err.field-0)
+    λ k. subst (λ (ys : List (Entry g.row.A.Denot)). AllByRecursion (Held bits) ys → Ascending (map (meant bits) ys) → Sound a l → Miss (map (meant bits) ys) p c.in-Err.field-0)
     c.as_slice.ensures.value c.in-Err.ensures.cases k.held k.ascends sound in
     let no = λ (k : Keeps bits W t). turned_down bits W t (delete a l) ok.is_open 8 _ 0
     (delete_absent W t.nodes plan rs a l ok.short ok.clean (miss k).finds) in

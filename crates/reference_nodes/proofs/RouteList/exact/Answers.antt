@@ -1,5 +1,5 @@
 use Rattle.std.proofs.Common.{◌≡◌, ◌<◌, List, map, length, Some, vec_items, sym, ap, ◌∙◌, subst}
-use Rattle.std.specs.List.{AllByRecursion as All}
+use Rattle.std.specs.List.{AllByRecursion}
 use Rattle.bits.specs.Order.{Sound}
 use Rattle.model.specs.Routes.{Route, Ascending, find}
 use Rattle.reference_nodes.specs.declared.Route.{Route as Entry}
@@ -25,7 +25,7 @@ returns-in-Ok g c k =
     let i = c.in-Ok.i in
     let inside : i < length xs = subst (λ (ys : List (Entry g.row.A.Denot)). i < length ys) c.as_slice.ensures.value c.in-Ok.ensures.within in
     let hit : Keeps bits g.A.Address.width t → Hit (map (meant bits) xs) p i =
-    λ k. subst (λ (ys : List (Entry g.row.A.Denot)). All (Held bits) ys → Ascending (map (meant bits) ys) → Sound a l → Hit (map (meant bits) ys) p i)
+    λ k. subst (λ (ys : List (Entry g.row.A.Denot)). AllByRecursion (Held bits) ys → Ascending (map (meant bits) ys) → Sound a l → Hit (map (meant bits) ys) p i)
     c.as_slice.ensures.value c.in-Ok.ensures.cases k.held k.ascends sound in
     let x = c.index.result.now in
     let there : find (map (meant bits) xs) p ≡ Some x.hop =

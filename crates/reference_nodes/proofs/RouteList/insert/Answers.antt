@@ -1,5 +1,5 @@
 use Rattle.std.proofs.Common.{◌≡◌, ℕ, ◌-◌, ◌<◌, true, cond, leb, List, map, length, set, Some, vec_items, sym, refl, ap, ◌∙◌, subst, ap₂, arith}
-use Rattle.std.specs.List.{AllByRecursion as All}
+use Rattle.std.specs.List.{AllByRecursion}
 use Rattle.std.proofs.lemmas.Result.{err_from_is_err_and}
 use Rattle.bits.specs.Order.{Sound}
 use Rattle.faults.specs.declared.Fault.{Fault}
@@ -55,7 +55,7 @@ returns-then-taken-self g c =
     let n = c.missing_nodes-taken.result in
     let taken : Keeps bits W t → n ≡ count (missing rs a l) (offsets plan) =
     λ k. subst (λ (ss : List ℕ). n ≡ count (missing rs a l) (offsets ss)) c.as_slice-2.ensures.value
-    (subst (λ (ys : List (Entry g.row.A.Denot)). All (Held bits) ys → n ≡ count (missing (map (meant bits) ys) a l) (offsets c.as_slice-2.result.now))
+    (subst (λ (ys : List (Entry g.row.A.Denot)). AllByRecursion (Held bits) ys → n ≡ count (missing (map (meant bits) ys) a l) (offsets c.as_slice-2.result.now))
     c.as_slice.ensures.value c.missing_nodes-taken.ensures k.held) in
     let full : Keeps bits W t → perform W t.nodes (holding plan rs) (insert a l h) ≡ refused 7 _ 0 =
     λ k. insert_full W t.nodes plan rs a l ok.short ok.clean h small (no_room bits W t c.args.prefix long ok.short ok.is_open k n h (taken k) c.if-taken-self.true) in
@@ -86,7 +86,7 @@ returns-in_err-insert-in-Err g c =
     let n = c.missing_nodes-taken.result in
     let taken : Keeps bits W t → n ≡ count (missing rs a l) (offsets plan) =
     λ k. subst (λ (ss : List ℕ). n ≡ count (missing rs a l) (offsets ss)) c.as_slice-2.ensures.value
-    (subst (λ (ys : List (Entry g.row.A.Denot)). All (Held bits) ys → n ≡ count (missing (map (meant bits) ys) a l) (offsets c.as_slice-2.result.now))
+    (subst (λ (ys : List (Entry g.row.A.Denot)). AllByRecursion (Held bits) ys → n ≡ count (missing (map (meant bits) ys) a l) (offsets c.as_slice-2.result.now))
     c.as_slice.ensures.value c.missing_nodes-taken.ensures k.held) in
     let sound = sound_when W a l long ok.short ok.clean in
     let x : Entry g.row.A.Denot = record { prefix = c.args.prefix; hop = h } in
@@ -102,7 +102,7 @@ returns-in_err-insert-in-Err g c =
       after = λ k. ap (λ (ys : List (Entry g.row.A.Denot)). cond t.opened (holding plan (map (meant bits) ys)) shut) same;
       keeps = λ k. record {
         ascends = subst (λ (ys : List (Entry g.row.A.Denot)). Ascending (map (meant bits) ys)) (sym same) k.ascends;
-        held = subst (All (Held bits)) (sym same) k.held;
+        held = subst (AllByRecursion (Held bits)) (sym same) k.held;
         planned = k.planned;
         counted = λ e. k.counted e ∙ ap (λ (ys : List (Entry g.row.A.Denot)). required plan (map (meant bits) ys)) (sym same);
       };
@@ -128,7 +128,7 @@ returns-in-Ok g c =
     let n = c.missing_nodes-taken.result in
     let taken : Keeps bits W t → n ≡ count (missing rs a l) (offsets plan) =
     λ k. subst (λ (ss : List ℕ). n ≡ count (missing rs a l) (offsets ss)) c.as_slice-2.ensures.value
-    (subst (λ (ys : List (Entry g.row.A.Denot)). All (Held bits) ys → n ≡ count (missing (map (meant bits) ys) a l) (offsets c.as_slice-2.result.now))
+    (subst (λ (ys : List (Entry g.row.A.Denot)). AllByRecursion (Held bits) ys → n ≡ count (missing (map (meant bits) ys) a l) (offsets c.as_slice-2.result.now))
     c.as_slice.ensures.value c.missing_nodes-taken.ensures k.held) in
     let sound = sound_when W a l long ok.short ok.clean in
     let x : Entry g.row.A.Denot = record { prefix = c.args.prefix; hop = h } in
@@ -140,7 +140,7 @@ returns-in-Ok g c =
     let i = c.in-Ok.i in
     let inside : i < length xs = subst (λ (ys : List (Entry g.row.A.Denot)). i < length ys) c.as_slice-3.ensures.value c.in-Ok.ensures.within in
     let hit : Keeps bits W t → Hit rs p i =
-    λ k. subst (λ (ys : List (Entry g.row.A.Denot)). All (Held bits) ys → Ascending (map (meant bits) ys) → Sound a l → Hit (map (meant bits) ys) p i)
+    λ k. subst (λ (ys : List (Entry g.row.A.Denot)). AllByRecursion (Held bits) ys → Ascending (map (meant bits) ys) → Sound a l → Hit (map (meant bits) ys) p i)
     c.as_slice-3.ensures.value c.in-Ok.ensures.cases k.held k.ascends sound in
     let old = c.index.result.now in
     let there : Keeps bits W t → find rs p ≡ Some old.hop =
@@ -179,7 +179,7 @@ returns-in_ok-insert-in-Err g c =
     let n = c.missing_nodes-taken.result in
     let taken : Keeps bits W t → n ≡ count (missing rs a l) (offsets plan) =
     λ k. subst (λ (ss : List ℕ). n ≡ count (missing rs a l) (offsets ss)) c.as_slice-2.ensures.value
-    (subst (λ (ys : List (Entry g.row.A.Denot)). All (Held bits) ys → n ≡ count (missing (map (meant bits) ys) a l) (offsets c.as_slice-2.result.now))
+    (subst (λ (ys : List (Entry g.row.A.Denot)). AllByRecursion (Held bits) ys → n ≡ count (missing (map (meant bits) ys) a l) (offsets c.as_slice-2.result.now))
     c.as_slice.ensures.value c.missing_nodes-taken.ensures k.held) in
     let sound = sound_when W a l long ok.short ok.clean in
     let x : Entry g.row.A.Denot = record { prefix = c.args.prefix; hop = h } in
@@ -190,7 +190,7 @@ returns-in_ok-insert-in-Err g c =
     λ k. insert_granted W t.nodes plan rs a l ok.short ok.clean h small (fits k) in
     let i = c.in-Err.i in
     let miss : Keeps bits W t → Miss rs p i =
-    λ k. subst (λ (ys : List (Entry g.row.A.Denot)). All (Held bits) ys → Ascending (map (meant bits) ys) → Sound a l → Miss (map (meant bits) ys) p i)
+    λ k. subst (λ (ys : List (Entry g.row.A.Denot)). AllByRecursion (Held bits) ys → Ascending (map (meant bits) ys) → Sound a l → Miss (map (meant bits) ys) p i)
     c.as_slice-3.ensures.value c.in-Err.ensures.cases k.held k.ascends sound in
     let items = vec_items c.insert.new.self in
     let then = c.in_ok-insert-in-Err.ensures.items in
@@ -202,7 +202,7 @@ returns-in_ok-insert-in-Err g c =
       after = λ k. then_shown bits W t (insert a l h) ok.is_open (inserted (find rs p) nodes) (put rs p h) (so k) (items) (left k);
       keeps = λ k. record {
         ascends = subst Ascending (sym (left k)) (put_ascends rs p h k.ascends);
-        held = subst (All (Held bits)) (sym then) (held_inserted bits xs i x k.held one);
+        held = subst (AllByRecursion (Held bits)) (sym then) (held_inserted bits xs i x k.held one);
         planned = k.planned;
         counted = λ e. sym (ap (required plan) (left k) ∙ taken_are bits W t c.args.prefix long ok.short ok.is_open k n h (taken k));
       };

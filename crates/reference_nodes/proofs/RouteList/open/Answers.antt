@@ -1,6 +1,6 @@
 use Rattle.std.proofs.Common.{◌≡◌, ℕ, true, leb, List, [], map, vec_items, sym, refl, ap, ◌∙◌, subst, ap₂, arith}
 use Rattle.std.proofs.lemmas.Bool.{le-leb}
-use Rattle.std.specs.List.{AllByRecursion as All}
+use Rattle.std.specs.List.{AllByRecursion}
 use Rattle.laws.proofs.TenGranted.{open_granted}
 use Rattle.laws.proofs.Plans.{planned}
 use Rattle.laws.proofs.Required.{none_required}
@@ -36,7 +36,7 @@ returns g c =
       after = ap₂ (λ (ss : List ℕ) (rs : Routes). holding ss rs) is empty ∙ sym (ap (left_by (shown bits c.args.self.now)) so);
       keeps = λ k. record {
         ascends = subst Ascending (sym empty) tt;
-        held = subst (All (Held bits)) (sym none) tt;
+        held = subst (AllByRecursion (Held bits)) (sym none) tt;
         planned = λ e. ap (plan_ok W) is ∙ ok;
         counted = λ e. sym (ap (required (vec_items plan)) empty ∙ none_required (vec_items plan));
       };

@@ -1,5 +1,5 @@
 use Rattle.std.proofs.Common.{◌≡◌, ◌+◌, ◌*◌, ◌≤◌, map, drop}
-use Rattle.std.specs.List.{AllByRecursion as All}
+use Rattle.std.specs.List.{AllByRecursion}
 use Rattle.laws.specs.Counts.{count, missing}
 use Rattle.model.specs.Plans.{offsets, offsets_from}
 use Rattle.reference_nodes.specs.Shown.{meant, Held}
@@ -11,4 +11,4 @@ invariant-loop-i g l =
     let test = missing (map (meant bits) l.routes) (bits l.prefix.address) l.prefix.length in
     (l.offset ≤ 255 * l.i)
     × (l.nodes ≤ l.i)
-    × (All (Held bits) l.routes → count test (offsets l.plan) ≡ l.nodes + count test (offsets_from l.offset (drop l.i l.plan)))
+    × (AllByRecursion (Held bits) l.routes → count test (offsets l.plan) ≡ l.nodes + count test (offsets_from l.offset (drop l.i l.plan)))
