@@ -5,8 +5,7 @@
 run:
 	@echo "Proving and building the console; the first time this takes some minutes."
 	@mkdir -p target
-	@rt check console > target/console.check 2>&1 || { tail -n 40 target/console.check; exit 1; }
-	@target/bin/console < crates/console/stdin
+	@cd crates/console && rt run < stdin 2> ../../target/console.log || { tail -n 40 ../../target/console.log; exit 1; }
 
 test:
-	rt ci
+	bash .ci/run

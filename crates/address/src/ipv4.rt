@@ -2,8 +2,8 @@ ghost use Rattle.std.specs.Prelude.{◌≡◌, ◌-◌, ◌/◌, ◌%◌, ◌^�
 ghost use Rattle.bits.specs.Rows.{row, write_group, clear, top};
 ghost use Rattle.bits.specs.Order.{order};
 ghost use Rattle.bits.proofs.Rows.{length_row};
-ghost use Rattle.std.proofs.Common.{arith, rules};
-ghost use Rattle.bits.proofs.Groups.{reads_back};
+ghost use Rattle.std.proofs.Common.{rules};
+ghost use Rattle.bits.proofs.Groups.{row_reads_back};
 
 use crate::Address;
 use std::cmp::Ordering;
@@ -69,9 +69,7 @@ impl Address for Ipv4 {
 
     ghost long = { λ a. length_row 32 a.bits };
 
-    ghost back = { λ a place len v h.
-        let l = length_row 32 a.bits in
-        reads_back (row 32 a.bits) place len v (omega arith) };
+    ghost back = { λ a. row_reads_back 32 a.bits };
 
     fn bit_count() -> u32 {
         Self::WIDTH

@@ -2,8 +2,8 @@ ghost use Rattle.std.specs.Prelude.{◌≡◌, ◌+◌, ◌-◌, ◌*◌, ◌/�
 ghost use Rattle.bits.specs.Rows.{row, write_group, clear, top};
 ghost use Rattle.bits.specs.Order.{order};
 ghost use Rattle.bits.proofs.Rows.{length_row};
-ghost use Rattle.std.proofs.Common.{arith, rules};
-ghost use Rattle.bits.proofs.Groups.{reads_back};
+ghost use Rattle.std.proofs.Common.{rules};
+ghost use Rattle.bits.proofs.Groups.{row_reads_back};
 
 use crate::Address;
 use std::cmp::Ordering;
@@ -89,9 +89,7 @@ impl Address for Ipv6 {
 
     ghost long = { λ a. length_row 128 (a.high * 2 ^ 64 + a.low) };
 
-    ghost back = { λ a place len v h.
-        let l = length_row 128 (a.high * 2 ^ 64 + a.low) in
-        reads_back (row 128 (a.high * 2 ^ 64 + a.low)) place len v (omega arith) };
+    ghost back = { λ a. row_reads_back 128 (a.high * 2 ^ 64 + a.low) };
 
     fn bit_count() -> u32 {
         Self::WIDTH

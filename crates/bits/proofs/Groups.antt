@@ -73,6 +73,11 @@ reads_back bs place len v h =
     ∙ ap number (take_at (row n v) (rest ++ replicate n false) n (length_row n v))
     ∙ number_row n v
 
+-- the same of the row of w bits of a number
+pub row_reads_back : (w x place len v : ℕ) → place + min len 6 ≤ w
+    → read_group (write_group (row w x) place len v) place len ≡ v % 2 ^ min len 6
+row_reads_back w x place len v h = let l = length_row w x in reads_back (row w x) place len v (omega arith)
+
 -- ---- rows of zeros
 
 eqb_mul : (a c : ℕ) → 0 < c → eqb (a * c) 0 ≡ eqb a 0

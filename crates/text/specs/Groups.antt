@@ -1,5 +1,5 @@
 -- The groups of a number, and the row of bits that they form.
-use Rattle.std.specs.Prelude.{◌≡◌, ℕ, zero, suc, ◌+◌, ◌-◌, ◌*◌, ◌/◌, ◌%◌, ◌^◌, ◌<◌, ◌≤◌, [], ◌∷◌, ◌++◌, length, replicate, refl}
+use Rattle.std.specs.Prelude.{◌≡◌, ℕ, zero, suc, ◌+◌, ◌-◌, ◌*◌, ◌/◌, ◌%◌, ◌^◌, ◌<◌, ◌≤◌, List, [], ◌∷◌, ◌++◌, length, replicate, Option, Some, refl}
 use Rattle.std.proofs.Common.{sym, ap, ap₂, ◌∙◌, zero-add, suc-add, zero-mul, div-one, mod-eq_of_lt, arith, pow_mono, shr-shr}
 use Rattle.std.proofs.Math.Nat.{mod-mod, zero-div}
 use Rattle.std.proofs.Math.Pow.{high, low, field, mod-mod-pow}
@@ -85,3 +85,10 @@ row_groups (suc n) v =
 pub row_from_groups : (h l h' l' : ℕ) → groups h l ≡ groups h' l' → row 128 (h * 2 ^ 64 + l) ≡ row 128 (h' * 2 ^ 64 + l')
 unfolding groups
 row_from_groups h l h' l' e = row_groups 8 (h * 2 ^ 64 + l) ∙ ap (flat_map (row 16)) e ∙ sym (row_groups 8 (h' * 2 ^ 64 + l'))
+
+-- what reads as the groups of two numbers: they have one row
+pub one_row : (h l h' l' : ℕ) (read : Option (List ℕ)) → read ≡ Some (groups h l) → read ≡ Some (groups h' l')
+    → row 128 (h * 2 ^ 64 + l) ≡ row 128 (h' * 2 ^ 64 + l')
+one_row h l h' l' read p q =
+    let same : groups h l ≡ groups h' l' = cc (sym p ∙ q) in
+    row_from_groups h l h' l' same

@@ -1,9 +1,11 @@
+-- the definitions that contracts cite
 pub mod Dotted
 pub mod Numbers
 pub mod Slashed
 pub mod Stuck
 pub mod Colons
 pub mod Words
+-- lemmas for the laws of the two kinds, whose proofs stand in src/
 pub mod Dots
 pub mod Longest
 pub mod Back

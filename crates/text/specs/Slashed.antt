@@ -1,5 +1,5 @@
 -- The text of a prefix: an address, a slash and a length.
-use Rattle.std.specs.Prelude.{◌≡◌, ℕ, ◌+◌, ◌%◌, ◌<◌, ◌≤◌, List, ◌∷◌, ◌++◌, length, decimal, ◌≢◌, slice_index, slice_index_or}
+use Rattle.std.specs.Prelude.{◌≡◌, ℕ, ◌+◌, ◌%◌, ◌<◌, ◌≤◌, List, ◌∷◌, ◌++◌, length, decimal, ◌≢◌, slice_index}
 use Rattle.text.specs.Stuck.{Stuck}
 
 -- the texts of the lengths that are read, 0 to 999
@@ -13,7 +13,7 @@ Unslashed t = (k : ℕ) → k < length t → slice_index t k ≢ 47
 -- the last slash of the text stands at this place
 pub record LastSlash (text : List ℕ) (place : ℕ) : Type 0 where
   pub within : place < length text
-  pub is : slice_index_or text place 0 ≡ 47
+  pub is : slice_index text place ≡ 47
   pub last : (k : ℕ) → place < k → k < length text → slice_index text k ≢ 47
 
 -- the text is that of an address, a slash and a length below 1000

@@ -1,10 +1,9 @@
 //! IPv6 addresses as text: canonical when written, any form of groups between colons when read.
 ghost use Rattle.std.specs.Prelude.{◌≡◌, Some};
-ghost use Rattle.std.proofs.Common.{sym, ◌∙◌};
 ghost use Rattle.text.specs.Colons.{groups, colons};
 ghost use Rattle.text.specs.Words.{read_colons};
 ghost use Rattle.text.specs.Back.{reads_back};
-ghost use Rattle.text.specs.Groups.{row_from_groups};
+ghost use Rattle.text.specs.Groups.{one_row};
 
 use crate::ipv6::read::read_address;
 use crate::ipv6::write::write_address;
@@ -22,9 +21,7 @@ impl AddressText for Ipv6 {
 
     ghost back = { λ a. reads_back a.high a.low };
 
-    ghost one = { λ t a b p q.
-        let same : groups a.high a.low ≡ groups b.high b.low = cc (sym p ∙ q) in
-        row_from_groups a.high a.low b.high b.low same };
+    ghost one = { λ t a b. one_row a.high a.low b.high b.low (read_colons t) };
 
     fn read(text: &[u8]) -> Result<Self, Unreadable> {
         read_address(text)

@@ -1,5 +1,5 @@
 //! Writing an IPv6 address: groups between colons, the longest run of zero groups left out.
-ghost use Rattle.std.specs.Prelude.{◌≡◌, ◌+◌, ◌*◌, ◌<◌, ◌≤◌, leb, [], ◌∷◌, ◌++◌, length, IfOk, if◌then◌else◌, string_bytes, OnOk, nat_le};
+ghost use Rattle.std.specs.Prelude.{◌≡◌, ◌+◌, ◌*◌, ◌<◌, ◌≤◌, [], ◌∷◌, ◌++◌, length, IfOk, if◌then◌else◌, string_bytes, OnOk, nat_le};
 ghost use Rattle.std.specs.Char.{digit_char};
 ghost use Rattle.text.specs.Colons.{groups, hex, written, longest, first_run, colons};
 
@@ -32,8 +32,8 @@ struct Run {
 
 // Of two runs the longer one; of equal runs the one in front.
 fn longer_run(front: Run, back: Run) -> Run
-    ensures place { result.place ≡ (if leb back.count front.count then front.place else back.place) }
-    ensures count { result.count ≡ (if leb back.count front.count then front.count else back.count) }
+    ensures place { result.place ≡ (if nat_le back.count front.count then front.place else back.place) }
+    ensures count { result.count ≡ (if nat_le back.count front.count then front.count else back.count) }
 {
     if front.count >= back.count {
         front
