@@ -1,87 +1,56 @@
-ghost use Rattle.std.specs.Prelude.{◌≡◌, ◌+◌, ◌-◌, ◌*◌, ◌/◌, ◌%◌, ◌^◌, ◌<◌, min, drop};
-ghost use Rattle.bits.specs.Rows.{row, write_group, clear, top};
-ghost use Rattle.bits.specs.Order.{order};
+ghost use Rattle.std.specs.Prelude.{◌≡◌, ◌+◌, ◌*◌, ◌%◌, ◌^◌};
+ghost use Rattle.bits.specs.Rows.{row};
 ghost use Rattle.bits.proofs.Rows.{length_row};
 ghost use Rattle.std.proofs.Common.{rules};
 ghost use Rattle.bits.proofs.Groups.{row_reads_back};
 
 use crate::Address;
+use crate::rows::Row;
 use std::cmp::Ordering;
 
 /// An IPv6 address: 128 bits in two numbers of 64.
-#[derive(Clone, Copy)]
+#[derive(Clone, Copy, PartialEq, Eq, Hash, Debug)]
 pub struct Ipv6 {
     pub high: u64,
     pub low: u64,
 }
 
-impl Ipv6 {
-    /// The two halves as one number.
-    pub fn number(self) -> u128
-        ensures { result ≡ self.high * 2 ^ 64 + self.low }
-    {
-        ((self.high as u128) << 64) + self.low as u128
-    }
+/// The two halves as one number.
+impl From<Ipv6> for u128 {
+    ghost from_gives = { λ a n. n ≡ a.high * 2 ^ 64 + a.low };
 
-    /// The address whose halves form a number.
-    pub fn from_number(v: u128) -> Ipv6
-        ensures { result.high * 2 ^ 64 + result.low ≡ v }
-    {
+    fn from(a: Ipv6) -> u128 {
+        (u128::from(a.high) << 64) + u128::from(a.low)
+    }
+}
+
+/// The address whose halves form a number.
+impl From<u128> for Ipv6 {
+    ghost from_gives = { λ n a. a.high * 2 ^ 64 + a.low ≡ n };
+
+    fn from(n: u128) -> Ipv6 {
         Ipv6 {
-            high: (v >> 64) as u64,
-            low: (v % (1 << 64)) as u64,
+            high: (n >> 64) as u64,
+            low: (n % (1 << 64)) as u64,
         }
     }
 }
 
-// The bits from a place on, at the top of the word, zeros behind them.
-fn from_place(v: u128, place: u32) -> u128
-    ensures { result ≡ top 128 128 (min place 128) v }
-{
-    if place < 128 { v << place } else { 0 }
-}
-
-// The number of the first bits of a word, at most 6.
-fn leading(word: u128, len: u32) -> u8
-    ensures { result ≡ word / 2 ^ 122 / 2 ^ (6 - min len 6) }
-{
-    (word >> 122 >> (6 - len.min(6))) as u8
-}
-
-// The number with a group of its row of 128 bits written.
-fn written(v: u128, place: u32, len: u32, value: u8) -> u128
-    ensures { row 128 result ≡ write_group (row 128 v) place len value }
-{
-    let n = len.min(6);
-    if n == 0 || place >= 128 {
-        return v;
+impl Ipv6 {
+    fn row(self) -> Row<128>
+        ensures { result.number ≡ self.high * 2 ^ 64 + self.low }
+    {
+        Row {
+            number: u128::from(self),
+        }
     }
-    let kept = n.min(128 - place);
-    let behind = 128 - place - kept;
-    let low = (value % (1 << n)) >> (n - kept);
-    let head = v >> behind >> kept;
-    let rest = v % (1 << behind);
-    (((head << kept) | low as u128) << behind) | rest
 }
 
-// Whether the bits are all 0 from a place on.
-fn is_clear(v: u128, place: u32) -> bool
-    ensures { result ≡ clear (drop place (row 128 v)) }
-{
-    from_place(v, place) == 0
-}
-
-// Two rows of bits by the first that differs.
-fn ordered(a: u128, b: u128) -> Ordering
-    ensures { result ≡ order (row 128 a) (row 128 b) }
-{
-    a.cmp(&b)
-}
-
+// Each call hands its row on, alike in both kinds: no body in the trait can, since a row's width is a const argument and `Self::WIDTH` is computed.
 impl Address for Ipv6 {
     const WIDTH: u32 = 128;
 
-    ghost width = { 128 };
+    ghost WIDTH = { 128 };
 
     ghost bits = { λ a. row 128 (a.high * 2 ^ 64 + a.low) };
 
@@ -91,27 +60,23 @@ impl Address for Ipv6 {
 
     ghost back = { λ a. row_reads_back 128 (a.high * 2 ^ 64 + a.low) };
 
-    fn bit_count() -> u32 {
-        Self::WIDTH
-    }
-
     fn zero() -> Self {
         Ipv6 { high: 0, low: 0 }
     }
 
     fn group(&self, place: u32, len: u32) -> u8 {
-        leading(from_place(self.number(), place), len)
+        self.row().group(place, len)
     }
 
     fn with_group(self, place: u32, len: u32, value: u8) -> Self {
-        Ipv6::from_number(written(self.number(), place, len, value))
+        Ipv6::from(self.row().with_group(place, len, value).number)
     }
 
     fn clear_from(&self, place: u32) -> bool {
-        is_clear(self.number(), place)
+        self.row().is_clear(place)
     }
 
     fn compare(&self, other: &Self) -> Ordering {
-        ordered(self.number(), other.number())
+        self.row().compare(&other.row())
     }
 }

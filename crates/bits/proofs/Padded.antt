@@ -19,9 +19,6 @@ enough n bs =
 pub padded_cons : (n : ℕ) (b : Bool) (bs : Bits) → padded (suc n) (b ∷ bs) ≡ b ∷ padded n bs
 padded_cons n b bs = ap (λ (r : Bits). b ∷ r) (enough n bs)
 
-pub padded_none : (n : ℕ) → padded (suc n) [] ≡ false ∷ padded n []
-padded_none n = refl
-
 pub length_padded : (size : ℕ) (bs : Bits) → length (padded size bs) ≡ size
 length_padded zero bs = refl
 length_padded (suc size) [] = ap suc (length_padded size [])

@@ -1,9 +1,10 @@
 -- Laws of prefixes as rows of bits.
-use Rattle.std.proofs.Common.{◌≡◌, ℕ, zero, suc, ◌+◌, ◌-◌, ◌*◌, ◌%◌, ◌^◌, ◌<◌, ◌≤◌, min, Bool, true, false, eqb, ◌⊎◌, List, [], ◌∷◌, ◌++◌, length, take, drop, Ordering, Less, Equal, Greater, sym, refl, ap, ◌∙◌, subst, ap₂, inl, inr, ⊎_elim, arith, length-drop, length-take, take_all, take-take, take-add}
+use Rattle.std.proofs.Common.{◌≡◌, ℕ, zero, suc, ◌+◌, ◌-◌, ◌*◌, ◌%◌, ◌^◌, ◌<◌, ◌≤◌, min, Bool, true, false, eqb, ◌⊎◌, List, [], ◌∷◌, ◌++◌, length, take, drop, replicate, Ordering, Less, Equal, Greater, sym, refl, ap, ◌∙◌, subst, ap₂, inl, inr, ⊎_elim, arith, length-drop, length-take, take_all, take-take, take-add}
 use Rattle.std.proofs.lemmas.Bool.{cases_lt}
 use lib.Pow.{high, low}
 use Rattle.std.proofs.lemmas.List.{drop-take, length-take-le}
-use Rattle.std.specs.Ordering.{ordering_then}
+use Rattle.std.specs.Ordering.{ordering_then, nat_cmp}
+use Rattle.std.proofs.lemmas.Cmp.{ranked}
 use Rattle.bits.specs.Rows.{Bits, bit, number, row, read_group, clear}
 use Rattle.bits.specs.Order.{order, begins, sizes, by_address, Sound}
 use Rattle.bits.proofs.Rows.{row_mod}
@@ -26,37 +27,7 @@ row_number (b ∷ bs) =
 pub same_number : (xs ys : List Bool) → length xs ≡ length ys → number xs ≡ number ys → xs ≡ ys
 same_number xs ys l e = sym (row_number xs) ∙ ap₂ row l e ∙ row_number ys
 
--- ---- two rows by their groups
-
-module _ (xs ys : List Bool) (same : length xs ≡ length ys) (p n : ℕ) (small : n ≤ 6) (inside : p + n ≤ length xs) where
-  read_x : read_group xs p n ≡ number (take n (drop p xs))
-  read_x = read_inside xs p n small inside
-
-  read_y : read_group ys p n ≡ number (take n (drop p ys))
-  read_y = read_inside ys p n small (omega arith)
-
-  pub more_same : take p xs ≡ take p ys → read_group xs p n ≡ read_group ys p n → take (p + n) xs ≡ take (p + n) ys
-  more_same front e =
-      take-add p n xs
-      ∙ ap₂ (λ a b. a ++ b) front
-      (same_number (take n (drop p xs)) (take n (drop p ys))
-      (length-take n (drop p xs) ∙ ap (min n) (length-drop p xs ∙ ap (λ i. i - p) same ∙ sym (length-drop p ys)) ∙ sym (length-take n (drop p ys)))
-      (sym read_x ∙ e ∙ read_y))
-      ∙ sym (take-add p n ys)
-
-  pub group_same : (len : ℕ) → p + n ≤ len → take len xs ≡ take len ys → read_group xs p n ≡ read_group ys p n
-  group_same len h e =
-      read_x
-      ∙ ap number
-      (sym (drop-take p n xs) ∙ ap (drop p) (sym (take-take (p + n) len xs h) ∙ ap (take (p + n)) e ∙ take-take (p + n) len ys h) ∙ drop-take p n ys)
-      ∙ sym read_y
-
 -- ---- the order of sound prefixes
-
-clear_tail : (b : Bool) (bs : List Bool) → clear (b ∷ bs) ≡ true → clear bs ≡ true
-unfolding clear
-clear_tail true bs h = let z : ◌≡◌ {A = ℕ} 0 1 = cc in absurd (omega arith)
-clear_tail false bs h = h
 
 true_clear : (bs : List Bool) {A : Type 0} → clear (true ∷ bs) ≡ true → A
 unfolding clear
@@ -119,13 +90,8 @@ sizes_ranks zero (suc m) = omega arith
 sizes_ranks (suc l) zero = omega arith
 sizes_ranks (suc l) (suc m) = one_more (sizes l m) l m (sizes_ranks l m)
 
-pub sizes_is : (o : Ordering) (l m : ℕ) → Ranks o l m → o ≡ sizes l m
-sizes_is o l m h = same_rank o (sizes l m) l m h (sizes_ranks l m)
-
-pub first_decides : (o s : Ordering) → (o ≡ Equal → ⊥) → o ≡ ordering_then o s
-first_decides Less s h = refl
-first_decides Equal s h = absurd (h refl)
-first_decides Greater s h = refl
+pub sizes_is : (l m : ℕ) → nat_cmp l m ≡ sizes l m
+sizes_is l m = same_rank (nat_cmp l m) (sizes l m) l m (ranked l m (nat_cmp l m) refl) (sizes_ranks l m)
 
 -- the number of the bits between two places, as a group
 pub between : (bs : List Bool) (from to : ℕ) → from ≤ to → to ≤ from + 6 → to ≤ length bs → read_group bs from (to - from) ≡ number (drop from (take to bs))
@@ -134,12 +100,6 @@ between bs from to a b c =
     read_inside bs from (to - from) (omega arith) (omega arith)
     ∙ ap number (sym (drop-take from (to - from) bs))
     ∙ ap (λ i. number (drop from (take i bs))) e
-
-pub between_lt : (bs : List Bool) (from to : ℕ) → from ≤ to → to ≤ length bs → number (drop from (take to bs)) < 2 ^ (to - from)
-between_lt bs from to a c =
-    subst (λ i. number (drop from (take to bs)) < 2 ^ i)
-    (length-drop from (take to bs) ∙ ap (λ i. i - from) (length-take-le to bs c))
-    (number_lt (drop from (take to bs)))
 
 -- the first bits of rows, when the rows end
 pub take_more_than : (xs : List Bool) (n w len : ℕ) → length xs ≡ w → n ≡ min len w → take len xs ≡ take n xs
@@ -179,15 +139,56 @@ begins_take (false ∷ xs) (true ∷ ys) (suc n) h = refl
 begins_take (true ∷ xs) (false ∷ ys) (suc n) h = refl
 begins_take (true ∷ xs) (true ∷ ys) (suc n) h = begins_take xs ys n (omega arith)
 
-module _ (xs ys : Bits) (same : length xs ≡ length ys) (len : ℕ) where
-  pub begins_same : take len xs ≡ take len ys → begins (take len xs) ys ≡ true
-  begins_same e = ap (λ (r : Bits). begins r ys) e ∙ begins_front len ys
+-- at most 6 bits are read
+read_six : (bs : List Bool) (p len : ℕ) → read_group bs p len ≡ read_group bs p (min len 6)
+unfolding read_group
+read_six bs p len = ap (λ i. number (take i (drop p bs ++ replicate i false))) (omega arith)
 
-  pub begins_other : (take len xs ≡ take len ys → ⊥) → begins (take len xs) ys ≡ false
-  begins_other differ = elim (decided (begins (take len xs) ys)) [
-    | holds h ↦ absurd (differ
-        (sym (front_from_begins (take len xs) ys h)
-        ∙ ap (λ i. take i ys) (length-take len xs ∙ ap (min len) same)
-        ∙ sym (take_more_than ys (min len (length ys)) (length ys) len refl refl)))
-    | fails h ↦ h
-  ]
+-- two rows of one length, and the first bits of one, of which end are there
+module _ (xs ys : Bits) (same : length xs ≡ length ys) (len end : ℕ) (there : end ≡ min len (length xs)) where
+  pub begins_same : take end xs ≡ take end ys → begins (take len xs) ys ≡ true
+  begins_same front =
+      ap (λ (r : Bits). begins r ys)
+      (take_more_than xs end (length xs) len refl there ∙ front ∙ sym (take_more_than ys end (length ys) len refl (there ∙ ap (min len) same)))
+      ∙ begins_front len ys
+
+  -- a group from place p on
+  module _ (p : ℕ) (before : p < end) where
+    abbrev n : ℕ
+    n = min (end - p) 6
+
+    read_x : read_group xs p (end - p) ≡ number (take n (drop p xs))
+    read_x = read_six xs p (end - p) ∙ read_inside xs p n (omega arith) (omega arith)
+
+    read_y : read_group ys p (end - p) ≡ number (take n (drop p ys))
+    read_y = read_six ys p (end - p) ∙ read_inside ys p n (omega arith) (omega arith)
+
+    pub more_same : take (min p end) xs ≡ take (min p end) ys → read_group xs p (end - p) ≡ read_group ys p (end - p) → take (min (p + 6) end) xs ≡ take (min (p + 6) end) ys
+    more_same front e =
+        let here : min p end ≡ p = omega arith in
+        let next : min (p + 6) end ≡ p + n = omega arith in
+        ap (λ i. take i xs) next
+        ∙ take-add p n xs
+        ∙ ap₂ (λ a b. a ++ b) (subst (λ i. take i xs ≡ take i ys) here front)
+        (same_number (take n (drop p xs)) (take n (drop p ys))
+        (length-take n (drop p xs) ∙ ap (min n) (length-drop p xs ∙ ap (λ i. i - p) same ∙ sym (length-drop p ys)) ∙ sym (length-take n (drop p ys)))
+        (sym read_x ∙ e ∙ read_y))
+        ∙ sym (take-add p n ys)
+        ∙ ap (λ i. take i ys) (sym next)
+
+    group_same : take len xs ≡ take len ys → read_group xs p (end - p) ≡ read_group ys p (end - p)
+    group_same e =
+        let h : p + n ≤ len = omega arith in
+        read_x
+        ∙ ap number
+        (sym (drop-take p n xs) ∙ ap (drop p) (sym (take-take (p + n) len xs h) ∙ ap (take (p + n)) e ∙ take-take (p + n) len ys h) ∙ drop-take p n ys)
+        ∙ sym read_y
+
+    pub begins_other : (read_group xs p (end - p) ≡ read_group ys p (end - p) → ⊥) → begins (take len xs) ys ≡ false
+    begins_other differ = elim (decided (begins (take len xs) ys)) [
+      | holds h ↦ absurd (differ (group_same
+          (sym (front_from_begins (take len xs) ys h)
+          ∙ ap (λ i. take i ys) (length-take len xs ∙ ap (min len) same)
+          ∙ sym (take_more_than ys (min len (length ys)) (length ys) len refl refl))))
+      | fails h ↦ h
+    ]

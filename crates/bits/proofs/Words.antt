@@ -1,5 +1,5 @@
 -- Shifts in a word of D bits, as reads and writes of a row of w bits.
-use Rattle.std.proofs.Common.{◌≡◌, ℕ, ◌+◌, ◌-◌, ◌*◌, ◌/◌, ◌%◌, ◌^◌, ◌<◌, ◌≤◌, min, false, eqb, ◌⊎◌, ◌++◌, length, take, drop, replicate, sym, refl, ap, ◌∙◌, subst, ap₂, ⊎_elim, mod-lt, mul_assoc, arith, pow_pos, pow-add, shr-shr, shr_lt}
+use Rattle.std.proofs.Common.{◌≡◌, ℕ, ◌+◌, ◌-◌, ◌*◌, ◌/◌, ◌%◌, ◌^◌, ◌<◌, ◌≤◌, min, false, eqb, ◌⊎◌, inl, inr, ◌++◌, length, take, drop, replicate, sym, refl, ap, ◌∙◌, subst, mul_assoc, ap₂, ⊎_elim, mod-lt, arith, pow_pos, pow-add, shr-shr, shr_lt}
 use lib.Arith.{digits_lt}
 use lib.Bits.{bit_or}
 use Rattle.std.proofs.lemmas.Nat.{or_shifted, shl_whole, one_shl}
@@ -57,15 +57,24 @@ top_by_steps D w p v fits hp hv =
 
 -- p bits, k bits of value x, and s bits in place
 module _ (D p k s v x : ℕ) (fits : p + k + s ≤ D) (some : 0 < k) (hv : v < 2 ^ (p + k + s)) (hx : x < 2 ^ k) where
+  head_lt : v / 2 ^ s / 2 ^ k < 2 ^ p
+  head_lt = shr_lt p k (shr_lt (p + k) s hv)
+
+  joined_lt : v / 2 ^ s / 2 ^ k * 2 ^ k + x < 2 ^ (p + k)
+  joined_lt = subst (λ y. v / 2 ^ s / 2 ^ k * 2 ^ k + x < y) (sym (pow-add 2 p k)) (digits_lt head_lt hx)
+
+  packed_lt : (v / 2 ^ s / 2 ^ k * 2 ^ k + x) * 2 ^ s + v % 2 ^ s < 2 ^ (p + k + s)
+  packed_lt =
+      subst (λ y. (v / 2 ^ s / 2 ^ k * 2 ^ k + x) * 2 ^ s + v % 2 ^ s < y) (sym (pow-add 2 (p + k) s))
+      (digits_lt joined_lt (mod-lt v (pow_pos s)))
+
   packed : bit_or ((bit_or ((v / 2 ^ s / 2 ^ k * 2 ^ k) % 2 ^ D) x * 2 ^ s) % 2 ^ D) (v % (1 * 2 ^ s % 2 ^ D)) ≡ (v / 2 ^ s / 2 ^ k * 2 ^ k + x) * 2 ^ s + v % 2 ^ s
   packed =
       let head = v / 2 ^ s / 2 ^ k in
-      let hh : head < 2 ^ p = shr_lt p k (shr_lt (p + k) s hv) in
-      let hi : head * 2 ^ k + x < 2 ^ (p + k) = subst (λ y. head * 2 ^ k + x < y) (sym (pow-add 2 p k)) (digits_lt hh hx) in
       ap₂ (λ a b. bit_or ((a * 2 ^ s) % 2 ^ D) (v % b))
-      (ap (λ a. bit_or a x) (shl_whole head p k D hh (omega arith)) ∙ or_shifted head k x hx)
+      (ap (λ a. bit_or a x) (shl_whole head p k D head_lt (omega arith)) ∙ or_shifted head k x hx)
       (one_shl s D (omega arith))
-      ∙ ap (λ a. bit_or a (v % 2 ^ s)) (shl_whole (head * 2 ^ k + x) (p + k) s D hi fits)
+      ∙ ap (λ a. bit_or a (v % 2 ^ s)) (shl_whole (head * 2 ^ k + x) (p + k) s D joined_lt fits)
       ∙ or_shifted (head * 2 ^ k + x) s (v % 2 ^ s) (mod-lt v (pow_pos s))
 
   abbrev parts : Parts p k s (v / 2 ^ s / 2 ^ k) x (v % 2 ^ s) v
@@ -78,12 +87,30 @@ low_word value n k = value % (1 * 2 ^ n % 2 ^ 8) / 2 ^ (n - k)
 abbrev pub write_word : ℕ → ℕ → ℕ → ℕ → ℕ → ℕ → ℕ
 write_word D k s n v value = bit_or ((bit_or ((v / 2 ^ s / 2 ^ k * 2 ^ k) % 2 ^ D) (low_word value n k) * 2 ^ s) % 2 ^ D) (v % (1 * 2 ^ s % 2 ^ D))
 
-module _ (D w p k s n v value len : ℕ) (hw : p + k + s ≡ w) (fits : w ≤ D) (some : 0 < k) (kn : k ≤ n) (hn : n ≡ min len 6)
-    (side : (n - k ≡ 0) ⊎ (s ≡ 0)) (hv : v < 2 ^ w) where
-  low_is : low_word value n k ≡ value % 2 ^ n / 2 ^ (n - k)
+-- the n low bits of a value are written from place p, of which k fit
+module _ (D w p k n v value len : ℕ) (fits : w ≤ D) (inside : p < w) (some : 0 < n) (hn : n ≡ min len 6) (hk : k ≡ min n (w - p)) (hv : v < 2 ^ w) where
+  abbrev s : ℕ
+  s = w - p - k
+
+  abbrev x : ℕ
+  x = low_word value n k
+
+  hw : p + k + s ≡ w
+  hw = omega arith
+
+  room : p + k + s ≤ D
+  room = omega arith
+
+  some' : 0 < k
+  some' = omega arith
+
+  side : (n - k ≡ 0) ⊎ (s ≡ 0)
+  side = ⊎_elim (λ h. inl (omega arith)) (λ h. inr (omega arith)) (cases_lt n (w - p))
+
+  low_is : x ≡ value % 2 ^ n / 2 ^ (n - k)
   low_is = ap (λ y. value % y / 2 ^ (n - k)) (one_shl n 8 (omega arith))
 
-  low_lt : low_word value n k < 2 ^ k
+  low_lt : x < 2 ^ k
   low_lt =
       let e : k + (n - k) ≡ n = omega arith in
       subst (λ y. y < 2 ^ k) (sym low_is) (shr_lt k (n - k) (subst (λ i. value % 2 ^ n < 2 ^ i) (sym e) (mod-lt value (pow_pos n))))
@@ -94,9 +121,13 @@ module _ (D w p k s n v value len : ℕ) (hw : p + k + s ≡ w) (fits : w ≤ D)
   pub write_word_is : row w (write_word D k s n v value) ≡ write_group (row w v) p len value
   unfolding write_group
   write_word_is =
-      let x = low_word value n k in
-      let f : p + k + s ≤ D = omega arith in
       let e : n ≡ k + (n - k) = omega arith in
-      ap₂ row (sym hw) (packed D p k s v x f some hv' low_lt)
-      ∙ write_row (parts D p k s v x f some hv' low_lt) n (n - k) value e low_is side
+      ap₂ row (sym hw) (packed D p k s v x room some' hv' low_lt)
+      ∙ write_row (parts D p k s v x room some' hv' low_lt) n (n - k) value e low_is side
       ∙ ap₂ (λ i m. take (length (row i v)) (take p (row i v) ++ (row m value ++ drop (p + m) (row i v)))) hw hn
+
+  -- the word has no bit above the row
+  pub write_word_lt : write_word D k s n v value < 2 ^ w
+  write_word_lt =
+      subst (λ i. write_word D k s n v value < 2 ^ i) hw
+      (subst (λ y. y < 2 ^ (p + k + s)) (sym (packed D p k s v x room some' hv' low_lt)) (packed_lt D p k s v x room some' hv' low_lt))

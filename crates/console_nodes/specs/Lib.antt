@@ -1,4 +1,1 @@
-pub mod Lines
 pub mod Told
-pub mod Counted
-pub mod Commands

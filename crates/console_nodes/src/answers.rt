@@ -1,111 +1,105 @@
-ghost use Rattle.std.specs.Prelude.{◌≡◌, ◌∷◌, ◌++◌, IfOk, string_bytes, decimal};
-ghost use Rattle.console_nodes.specs.Told.{refusal_told, route_told, several_told, inserted_told, deleted_told, matched_told, counted_told, hop_told};
+ghost use Rattle.std.specs.Prelude.{◌≡◌, Some, codes};
+ghost use Rattle.commands.specs.Told.{found_told};
+ghost use Rattle.console_nodes.specs.Told.{several_told, inserted_told, deleted_told, matched_told, counted_told};
 
-use faults::Fault;
-use reference_nodes::{Counted, Deleted, Inserted, Route};
-use std::alloc::{AllocError, Global};
-use text::AddressText;
-use text::prefix::prefix_text;
-
-// A refusal by number, word and meaning.
-pub(crate) fn refusal_text(heap: Global, fault: Fault) -> Result<String, AllocError>
-    ensures { IfOk result (λ s. string_bytes s ≡ refusal_told fault) }
-{
-    let refusal = fault.refusal;
-    let number = refusal.number();
-    let word = refusal.word();
-    let meaning = refusal.meaning();
-    format!(in heap; "refused {number} ({word}): {meaning}")
-}
-
-// A route by its prefix and hop.
-pub(crate) fn route_text<A: AddressText>(
-    heap: Global,
-    route: &Route<A>,
-) -> Result<String, AllocError>
-    ensures { IfOk result (λ s. string_bytes s ≡ route_told (A.AddressText.spelled route.now.prefix.address ++ (47 ∷ decimal route.now.prefix.length)) route.now.hop) }
-{
-    let prefix = route.prefix;
-    let hop = route.hop;
-    let text = prefix_text(&prefix, heap)?;
-    format!(in heap; "{text} by hop {hop}")
-}
+use commands::reply::Found;
+use std::fmt;
 
 // So many of a thing.
-pub(crate) fn several(heap: Global, count: usize, noun: &str) -> Result<String, AllocError>
-    ensures { IfOk result (λ s. string_bytes s ≡ several_told count noun.now) }
-{
-    if count == 1 {
-        format!(in heap; "1 {noun}")
-    } else {
-        format!(in heap; "{count} {noun}s")
+#[derive(Clone, Copy)]
+struct Several {
+    count: usize,
+    noun: &'static str,
+}
+
+impl fmt::Display for Several {
+    ghost output = { λ several. Some (several_told several.count several.noun.now) };
+
+    fn fmt<W: fmt::Write>(&self, f: &mut fmt::Formatter<W>) -> fmt::Result {
+        if self.count == 1 {
+            write!(f, "1 {}", self.noun)
+        } else {
+            write!(f, "{} {}s", self.count, self.noun)
+        }
     }
 }
 
-// What an insert answered.
-pub(crate) fn inserted_text(
-    heap: Global,
-    command: &str,
-    hop: u16,
-    answer: Inserted,
-) -> Result<String, AllocError>
-    ensures { IfOk result (λ s. string_bytes s ≡ inserted_told command.now hop answer.old answer.taken) }
+// So many nodes.
+fn nodes(count: usize) -> Several
+    ensures count { result.count ≡ count }
+    ensures noun { result.noun.now ≡ codes "node" }
 {
-    let nodes = several(heap, answer.taken, "node")?;
-    match answer.old {
-        None => format!(in heap; "{command}: new, {nodes} taken"),
-        Some(before) => format!(in heap;
-            "{command}: hop {hop} in place of {before}, {nodes} taken"
-        ),
+    Several {
+        count,
+        noun: "node",
+    }
+}
+
+// What an insert answered, and the hop that was put in.
+#[derive(Clone, Copy)]
+pub(crate) struct Inserted {
+    pub(crate) hop: u16,
+    pub(crate) answer: reference_nodes::Inserted,
+}
+
+impl fmt::Display for Inserted {
+    ghost output = { λ inserted. Some (inserted_told inserted.hop inserted.answer.old inserted.answer.taken) };
+
+    fn fmt<W: fmt::Write>(&self, f: &mut fmt::Formatter<W>) -> fmt::Result {
+        let taken = nodes(self.answer.taken);
+        match self.answer.old {
+            None => write!(f, "new, {taken} taken"),
+            Some(old) => write!(f, "hop {} in place of {old}, {taken} taken", self.hop),
+        }
     }
 }
 
 // What a delete answered.
-pub(crate) fn deleted_text(
-    heap: Global,
-    command: &str,
-    answer: Deleted,
-) -> Result<String, AllocError>
-    ensures { IfOk result (λ s. string_bytes s ≡ deleted_told command.now answer.hop answer.returned) }
-{
-    let nodes = several(heap, answer.returned, "node")?;
-    let hop = answer.hop;
-    format!(in heap; "{command}: was by hop {hop}, {nodes} returned")
+#[derive(Clone, Copy)]
+pub(crate) struct Deleted(pub(crate) reference_nodes::Deleted);
+
+impl fmt::Display for Deleted {
+    ghost output = { λ deleted. Some (deleted_told deleted.0.hop deleted.0.returned) };
+
+    fn fmt<W: fmt::Write>(&self, f: &mut fmt::Formatter<W>) -> fmt::Result {
+        let returned = nodes(self.0.returned);
+        write!(f, "was by hop {}, {returned} returned", self.0.hop)
+    }
 }
 
-// What a lookup answered: a route in words, and the nodes on the path.
-pub(crate) fn matched_text(
-    heap: Global,
-    command: &str,
-    route: &str,
-    path: usize,
-) -> Result<String, AllocError>
-    ensures { IfOk result (λ s. string_bytes s ≡ matched_told command.now route.now path) }
-{
-    let nodes = several(heap, path, "node")?;
-    format!(in heap; "{command}: {route}, {nodes}")
+// What a lookup answered: a route in words, if there is one, and the nodes on the path.
+#[derive(Drop)]
+pub(crate) struct Matched {
+    pub(crate) found: Found,
+    pub(crate) path: usize,
+}
+
+impl fmt::Display for Matched {
+    ghost output = { λ matched. Some (matched_told (found_told matched.found.0) matched.path) };
+
+    fn fmt<W: fmt::Write>(&self, f: &mut fmt::Formatter<W>) -> fmt::Result {
+        let path = nodes(self.path);
+        write!(f, "{}, {path}", self.found)
+    }
 }
 
 // What a count answered.
-pub(crate) fn counted_text(heap: Global, answer: Counted) -> Result<String, AllocError>
-    ensures { IfOk result (λ s. string_bytes s ≡ counted_told answer.routes answer.required answer.free) }
-{
-    let routes = several(heap, answer.routes, "route")?;
-    let nodes = several(heap, answer.required, "node")?;
-    let free = answer.free;
-    format!(in heap; "counts: {routes}, {nodes} required, {free} free")
-}
+#[derive(Clone, Copy)]
+pub(crate) struct Counted(pub(crate) reference_nodes::Counted);
 
-// What an exact answered.
-pub(crate) fn hop_text(
-    heap: Global,
-    command: &str,
-    found: Option<u16>,
-) -> Result<String, AllocError>
-    ensures { IfOk result (λ s. string_bytes s ≡ hop_told command.now found) }
-{
-    match found {
-        None => format!(in heap; "{command}: no route"),
-        Some(hop) => format!(in heap; "{command}: hop {hop}"),
+impl fmt::Display for Counted {
+    ghost output = { λ counted. Some (counted_told counted.0.routes counted.0.required counted.0.free) };
+
+    fn fmt<W: fmt::Write>(&self, f: &mut fmt::Formatter<W>) -> fmt::Result {
+        let routes = Several {
+            count: self.0.routes,
+            noun: "route",
+        };
+        let required = nodes(self.0.required);
+        write!(f, "{routes}, {required} required, {} free", self.0.free)
     }
 }
+
+// The command that only this console has.
+#[derive(Clone, Copy)]
+pub(crate) struct Counts;

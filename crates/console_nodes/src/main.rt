@@ -1,64 +1,28 @@
-//! The console: reads commands from standard input, one on a line, and answers each in words.
+//! The console over a list that counts nodes: reads commands from standard input, one on a line, and answers each in words.
 #![tactic(auto)]
 
 mod answers;
-mod command;
-mod session;
-mod summary;
-mod words;
+mod table;
 
-use anyhow::anyhow;
-use command::Kind;
-use session::{Reply, Session};
+use address::ipv4::Ipv4;
+use address::ipv6::Ipv6;
+use commands::console::Console;
+use commands::reply::Reply;
 use std::io::{BufRead, BufReader};
-use summary::Summary;
+use table::Table;
 
-// Prints what a line came to, and counts it.
-fn tell(
-    rt: &HostRuntime,
-    line: &[u8],
-    reply: Reply,
-    summary: &mut Summary,
-) -> anyhow::Result<Option<Kind>> {
-    summary.count(&reply);
-    match reply {
-        Reply::Silence => {}
-        Reply::Remark => {
-            if let Ok(text) = std::str::from_utf8(line) {
-                println!(rt; "{text}")?;
-            }
-        }
-        Reply::Answered(text) => println!(rt; "{text}")?,
-        Reply::Refused(text) => println!(rt; "{text}")?,
-        Reply::Misread(expected, place) => {
-            let number = summary.lines;
-            println!(rt; "line {number}: expected {expected} (at byte {place})")?;
-        }
-        Reply::Switched(kind) => {
-            let name = kind.name();
-            println!(rt; "kind {name}: shut")?;
-            return Ok(Some(kind));
-        }
-    }
-    Ok(None)
-}
-
+// Takes each line, and prints what it came to. No clause can pin what is printed, so this is no public function of the shared crate.
 fn run(rt: &HostRuntime) -> anyhow::Result<()> {
     let heap = rt.alloc();
-    let mut session = Session::new(heap, Kind::Ipv4);
-    let mut summary = Summary::new();
+    let mut console = Console::<Table<Ipv4>, Table<Ipv6>>::new(heap);
     for line in BufReader::new(heap, rt.stdin())?.split(heap, b'\n') {
         let line = line?;
-        let reply = match session.take(heap, line.as_slice()) {
-            Ok(reply) => reply,
-            Err(_) => return Err(anyhow!("no memory")),
-        };
-        if let Some(kind) = tell(rt, line.as_slice(), reply, &mut summary)? {
-            session = Session::new(heap, kind);
+        match console.take(line.as_slice())? {
+            Reply::Silence => {}
+            reply => println!(rt; "{reply}")?,
         }
     }
-    let text = summary.text(heap)?;
-    println!(rt; "{text}")?;
+    println!(rt; "{}", console.summary)?;
     Ok(())
 }
 

@@ -1,5 +1,5 @@
 -- The refusals by number: the one link between the program's cases and the numbers that promises speak of.
-use Rattle.std.specs.Prelude.{List, ℕ, codes}
+use Rattle.std.specs.Prelude.{List, ℕ, ◌++◌, codes, decimal}
 use Rattle.faults.specs.declared.Refusal.{Refusal}
 use Rattle.faults.specs.declared.Refusal.TheVariants.{Shut, Plan, Size, Length, Stray, Hop, Full, Absent, Place, Value, Cut, Number, Strides, Order, Turn, Narrow}
 use Rattle.faults.specs.declared.Layer.{Layer}
@@ -126,6 +126,11 @@ meaning_of Strides = codes "the strides are not the table's"
 meaning_of Order = codes "the route is not above the one before"
 meaning_of Turn = codes "the block's number is not due"
 meaning_of Narrow = codes "the output is shorter than the sheet"
+
+-- a refusal by number, word and meaning
+abbrev pub refusal_told : Refusal → List ℕ
+refusal_told r =
+    codes "refused " ++ (decimal (number_of r) ++ (codes " (" ++ (word_of r ++ (codes "): " ++ meaning_of r))))
 
 abbrev pub layer_word : Layer → List ℕ
 layer_word Memory = codes "memory"

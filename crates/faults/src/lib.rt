@@ -1,8 +1,11 @@
 //! The sixteen refusals, each with its number and word, and the fault that carries one up through the layers.
 #![tactic(auto)]
 
-ghost use Rattle.std.specs.Prelude.{◌≡◌};
-ghost use Rattle.faults.specs.Numbers.{number_of, word_of, meaning_of, layer_word, of_table};
+ghost use Rattle.std.specs.Prelude.{◌≡◌, Some};
+ghost use Rattle.faults.specs.Numbers.{number_of, word_of, meaning_of, refusal_told, layer_word, of_table};
+
+use std::error::Error;
+use std::fmt;
 
 /// Why a call is refused. The numbers are 1 to 16, in this order.
 #[derive(Clone, Copy, PartialEq, Eq, Debug)]
@@ -119,6 +122,30 @@ impl Refusal {
     }
 }
 
+/// Its number.
+impl From<Refusal> for u8 {
+    ghost from_gives = { λ refusal number. number ≡ number_of refusal };
+
+    fn from(refusal: Refusal) -> u8 {
+        refusal.number()
+    }
+}
+
+/// Writes its number, its word and what it says, as `refused 5 (stray): bits are set behind the length`.
+impl fmt::Display for Refusal {
+    ghost output = { λ refusal. Some (refusal_told refusal) };
+
+    fn fmt<W: fmt::Write>(&self, f: &mut fmt::Formatter<W>) -> fmt::Result {
+        write!(
+            f,
+            "refused {} ({}): {}",
+            self.number(),
+            self.word(),
+            self.meaning()
+        )
+    }
+}
+
 impl Layer {
     /// Its word.
     pub fn word(self) -> &'static str
@@ -130,6 +157,15 @@ impl Layer {
             Layer::Reader => "reader",
             Layer::Link => "link",
         }
+    }
+}
+
+/// Writes its word.
+impl fmt::Display for Layer {
+    ghost output = { λ layer. Some (layer_word layer) };
+
+    fn fmt<W: fmt::Write>(&self, f: &mut fmt::Formatter<W>) -> fmt::Result {
+        f.write_str(self.word())
     }
 }
 
@@ -145,3 +181,14 @@ impl Fault {
         }
     }
 }
+
+/// Writes the refusal, as it writes itself.
+impl fmt::Display for Fault {
+    ghost output = { λ fault. Some (refusal_told fault.refusal) };
+
+    fn fmt<W: fmt::Write>(&self, f: &mut fmt::Formatter<W>) -> fmt::Result {
+        write!(f, "{}", self.refusal)
+    }
+}
+
+impl Error for Fault {}

@@ -2,37 +2,55 @@
 //! The stored output, with a sum over all answers, comes from a third implementation.
 #![tactic(auto)]
 
-mod dice;
+mod calls;
 mod scan;
 mod sides;
 
 use address::ipv4::Ipv4;
 use address::ipv6::Ipv6;
-use dice::Dice;
-use sides::{Tally, play};
+use sides::play;
+use trials::History;
+use trials::numbers::Numbered;
 
-fn tell(rt: &HostRuntime, name: &str, tally: &Tally) -> anyhow::Result<()> {
-    let calls = tally.calls;
-    let differences = tally.differences;
-    let sum = tally.sum;
-    let refused = tally.refused;
-    println!(rt; "{name}: {calls} calls, {differences} differences, sum of the answers {sum}")?;
-    for number in 1..9usize {
-        let count = refused[number];
-        println!(rt; "  refused {number}: {count}")?;
-    }
+const IPV4_PLAN: &[u8] = &[3, 6, 6, 6, 6, 6];
+
+const IPV6_PLAN: &[u8] = &[
+    3, 6, 6, 6, 6, 6, 6, 6, 6, 6, 6, 6, 6, 6, 6, 6, 6, 6, 6, 6, 6, 6,
+];
+
+const IPV4: History = History {
+    start: 1,
+    nodes: 5,
+    calls: 20_000,
+};
+
+const IPV6: History = History {
+    start: 2,
+    nodes: 5,
+    calls: 20_000,
+};
+
+const WITHOUT_NODES: History = History {
+    start: 3,
+    nodes: 0,
+    calls: 2_000,
+};
+
+fn show<A: Numbered>(
+    rt: &HostRuntime,
+    name: &str,
+    plan: &'static [u8],
+    history: History,
+) -> anyhow::Result<()> {
+    let tally = play::<A>(rt.alloc(), plan, history)?;
+    println!(rt; "{name}: {tally}")?;
     Ok(())
 }
 
 fn run(rt: &HostRuntime) -> anyhow::Result<()> {
-    let heap = rt.alloc();
-    tell(rt, "ipv4", &play::<Ipv4>(heap, Dice::new(1), 5, 20_000)?)?;
-    tell(rt, "ipv6", &play::<Ipv6>(heap, Dice::new(2), 5, 20_000)?)?;
-    tell(
-        rt,
-        "ipv4 without nodes",
-        &play::<Ipv4>(heap, Dice::new(3), 0, 2_000)?,
-    )
+    show::<Ipv4>(rt, "ipv4", IPV4_PLAN, IPV4)?;
+    show::<Ipv6>(rt, "ipv6", IPV6_PLAN, IPV6)?;
+    show::<Ipv4>(rt, "ipv4 without nodes", IPV4_PLAN, WITHOUT_NODES)
 }
 
 fn main(rt: HostRuntime) -> anyhow::Result<()> {

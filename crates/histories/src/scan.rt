@@ -1,191 +1,90 @@
-use std::alloc::{AllocError, Global};
+use crate::calls::{Answer, Call};
+use faults::{Fault, Refusal};
+use reference::Failure;
+use std::alloc::Global;
+use trials::lines::{Line, Lines, Network, is_plan};
 
-// a route by the number of its address
-#[derive(Clone, Copy, PartialEq, Eq)]
-pub(crate) struct Line {
-    pub(crate) value: u128,
-    pub(crate) length: u32,
-    pub(crate) hop: u16,
-}
-
-// what an engine answered
-#[derive(Clone, Copy, PartialEq, Eq)]
-pub(crate) enum Said {
-    Refused(u8),
-    Opened,
-    Hop(Option<u16>),
-    Route(Option<Line>),
-}
-
-// routes in no order, for addresses of so many bits
+// routes in no order, for addresses of so many bits and a memory of so many nodes; they are there once it was opened
 #[derive(Drop)]
 pub(crate) struct Scan {
+    heap: Global,
     width: u32,
     nodes: usize,
-    open: bool,
-    lines: Vec<Line>,
-}
-
-// The bits of a number of `width` bits from `length` on.
-fn tail(width: u32, value: u128, length: u32) -> u128 {
-    if length >= width || width > 128 {
-        return 0;
-    }
-    let above = 128 - (width - length);
-    value << above >> above
+    open: Option<Lines>,
 }
 
 impl Scan {
     pub(crate) fn new(heap: Global, width: u32, nodes: usize) -> Scan {
         Scan {
+            heap,
             width,
             nodes,
-            open: false,
-            lines: Vec::new(heap),
+            open: None,
         }
     }
 
-    pub(crate) fn open(&mut self, strides: &[u8]) -> Said {
-        let mut sum: u64 = 0;
-        let mut odd = strides.is_empty() || strides.len() > 32;
-        for s in strides {
-            odd = odd || *s == 0 || *s > 6;
-            sum = sum.saturating_add(*s as u64);
-        }
-        if odd || sum != self.width as u64 + 1 {
-            return Said::Refused(2);
+    fn open(&mut self, strides: &[u8]) -> Result<(), Fault> {
+        if !is_plan(self.width, strides) {
+            return Err(Fault::of_table(Refusal::Plan));
         }
         if self.nodes == 0 {
-            return Said::Refused(3);
+            return Err(Fault::of_table(Refusal::Size));
         }
-        self.lines.clear();
-        self.open = true;
-        Said::Opened
+        self.open = Some(Lines::new(self.heap, self.width));
+        Ok(())
     }
 
-    // The number of the first refusal that a prefix meets, or 0.
-    fn refusal(&self, value: u128, length: u32) -> u8 {
-        if !self.open {
-            1
-        } else if length > self.width {
-            4
-        } else if tail(self.width, value, length) != 0 {
-            5
-        } else {
-            0
-        }
+    // What it has once it is open: a line for each of the two scans, whose open parts differ.
+    fn opened(&self) -> Result<&Lines, Fault> {
+        self.open.as_ref().ok_or(Fault::of_table(Refusal::Shut))
     }
 
-    fn place(&self, value: u128, length: u32) -> Option<usize> {
-        for (i, line) in self.lines.iter().enumerate() {
-            if line.value == value && line.length == length {
-                return Some(i);
-            }
-        }
-        None
+    fn opened_mut(&mut self) -> Result<&mut Lines, Fault> {
+        self.open.as_mut().ok_or(Fault::of_table(Refusal::Shut))
     }
 
-    pub(crate) fn insert(
-        &mut self,
-        value: u128,
-        length: u32,
-        hop: u16,
-    ) -> Result<Said, AllocError> {
-        let number = self.refusal(value, length);
-        if number != 0 {
-            return Ok(Said::Refused(number));
-        }
+    fn insert(&mut self, network: Network, hop: u16) -> Result<Option<u16>, Failure> {
+        let lines = self.opened_mut()?;
+        lines.admit(network)?;
         if hop >= 4096 {
-            return Ok(Said::Refused(6));
+            return Err(Failure::Refused(Fault::of_table(Refusal::Hop)));
         }
-        let mut old = None;
-        if let Some(i) = self.place(value, length) {
-            if i < self.lines.len() {
-                old = Some(self.lines.remove(i).hop);
+        let old = lines.take(network);
+        lines.lines.push(Line { network, hop })?;
+        Ok(old)
+    }
+
+    fn delete(&mut self, network: Network) -> Result<u16, Fault> {
+        let lines = self.opened_mut()?;
+        lines.admit(network)?;
+        lines.take(network).ok_or(Fault::of_table(Refusal::Absent))
+    }
+
+    fn exact(&self, network: Network) -> Result<Option<u16>, Fault> {
+        let lines = self.opened()?;
+        lines.admit(network)?;
+        Ok(lines.hop(network))
+    }
+
+    fn next(&self, network: Network) -> Result<Option<Line>, Fault> {
+        let lines = self.opened()?;
+        lines.admit(network)?;
+        Ok(lines.smallest(Some(network)))
+    }
+
+    // What the scan says to a call. Each history has its own, for its own calls; so has it `new` and `open`.
+    pub(crate) fn answer(&mut self, call: Call) -> Result<Answer, Failure> {
+        Ok(match call {
+            Call::Open(strides) => {
+                self.open(strides)?;
+                Answer::Opened
             }
-        }
-        self.lines.push(Line { value, length, hop })?;
-        Ok(Said::Hop(old))
-    }
-
-    pub(crate) fn delete(&mut self, value: u128, length: u32) -> Said {
-        let number = self.refusal(value, length);
-        if number != 0 {
-            return Said::Refused(number);
-        }
-        if let Some(i) = self.place(value, length) {
-            if i < self.lines.len() {
-                return Said::Hop(Some(self.lines.remove(i).hop));
-            }
-        }
-        Said::Refused(8)
-    }
-
-    pub(crate) fn lookup(&self, value: u128) -> Said {
-        if !self.open {
-            return Said::Refused(1);
-        }
-        let mut best: Option<Line> = None;
-        for line in self.lines.iter() {
-            let matches = line.value ^ value == tail(self.width, line.value ^ value, line.length);
-            let longer = match best {
-                Some(found) => line.length > found.length,
-                None => true,
-            };
-            if matches && longer {
-                best = Some(*line);
-            }
-        }
-        Said::Route(best)
-    }
-
-    pub(crate) fn exact(&self, value: u128, length: u32) -> Said {
-        let number = self.refusal(value, length);
-        if number != 0 {
-            return Said::Refused(number);
-        }
-        for line in self.lines.iter() {
-            if line.value == value && line.length == length {
-                return Said::Hop(Some(line.hop));
-            }
-        }
-        Said::Hop(None)
-    }
-
-    // The smallest route above a prefix, or of all.
-    fn smallest(&self, above: Option<(u128, u32)>) -> Option<Line> {
-        let mut best: Option<Line> = None;
-        for line in self.lines.iter() {
-            let wanted = match above {
-                Some((value, length)) => line.value > value
-                    || (line.value == value && line.length > length),
-                None => true,
-            };
-            let smaller = match best {
-                Some(found) => line.value < found.value
-                    || (line.value == found.value && line.length < found.length),
-                None => true,
-            };
-            if wanted && smaller {
-                best = Some(*line);
-            }
-        }
-        best
-    }
-
-    pub(crate) fn first(&self) -> Said {
-        if self.open {
-            Said::Route(self.smallest(None))
-        } else {
-            Said::Refused(1)
-        }
-    }
-
-    pub(crate) fn next(&self, value: u128, length: u32) -> Said {
-        let number = self.refusal(value, length);
-        if number != 0 {
-            return Said::Refused(number);
-        }
-        Said::Route(self.smallest(Some((value, length))))
+            Call::Insert(network, hop) => Answer::Hop(self.insert(network, hop)?),
+            Call::Delete(network) => Answer::Hop(Some(self.delete(network)?)),
+            Call::Lookup(value) => Answer::Route(self.opened()?.longest(value)),
+            Call::Exact(network) => Answer::Hop(self.exact(network)?),
+            Call::First => Answer::Route(self.opened()?.smallest(None)),
+            Call::Next(network) => Answer::Route(self.next(network)?),
+        })
     }
 }

@@ -1,62 +1,24 @@
 //! The second engine: a sorted list of routes, plain rather than fast. It is what the tree of nodes is compared with.
 #![tactic(auto)]
 
-ghost use Rattle.std.specs.Prelude.{◌≡◌};
-ghost use Rattle.reference.specs.declared.Failure.TheVariants.{Refused, NoMemory};
+ghost use Rattle.model.specs.Routes.{Ascending};
+ghost use Rattle.routes.specs.Ascends.{Ascending-prop};
 
 use address::Address;
-use address::prefix::Prefix;
-use faults::Fault;
-use std::alloc::{AllocError, AllocFailed as NoRoom, Global};
+use routes::set::RouteSet;
+use std::alloc::Global;
 
 pub mod calls;
-mod places;
-mod plans;
 
-/// A prefix and the hop, 0 to 4095, for the addresses that it matches.
-#[derive(Clone, Copy)]
-pub struct Route<A: Address> {
-    pub prefix: Prefix<A>,
-    pub hop: u16,
-}
+pub use routes::Route;
+pub use routes::failure::Failure;
 
-/// A list of routes for a memory of so many nodes: shut at first, then open with a plan.
+/// A list of routes for a memory of so many nodes: shut while it has no plan.
 #[derive(Drop)]
 pub struct RouteList<A: Address> {
     heap: Global,
     nodes: usize,
-    opened: bool,
-    plan: Vec<u8>,
-    routes: Vec<Route<A>>,
-}
-
-/// Why a call that needs memory failed: it was refused, or there was no memory; either way the list is as it was.
-#[derive(Clone, Copy)]
-pub enum Failure {
-    Refused(Fault),
-    NoMemory,
-}
-
-impl From<Fault> for Failure {
-    ghost from_gives = { λ f r. r ≡ Refused f };
-
-    fn from(fault: Fault) -> Failure {
-        Failure::Refused(fault)
-    }
-}
-
-impl From<AllocError> for Failure {
-    ghost from_gives = { λ _ r. r ≡ NoMemory };
-
-    fn from(_e: AllocError) -> Failure {
-        Failure::NoMemory
-    }
-}
-
-impl<T: Drop> From<NoRoom<T>> for Failure {
-    ghost from_gives = { λ _ r. r ≡ NoMemory };
-
-    fn from(_e: NoRoom<T>) -> Failure {
-        Failure::NoMemory
-    }
+    plan: Option<Vec<u8>>,
+    routes: RouteSet<A>,
+    pub ghost ascends: { Ascending routes.routes } by { Ascending-prop routes.routes },
 }

@@ -1,5 +1,2 @@
-mod Strides
-mod Finds
-mod Edits
 mod Shared
 mod Nodes

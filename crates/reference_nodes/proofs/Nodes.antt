@@ -1,90 +1,99 @@
--- The number of nodes that a call answers, and what the first tests refuse.
-use Rattle.std.proofs.Common.{◌≡◌, ℕ, ◌+◌, ◌-◌, ◌<◌, ◌≤◌, Bool, true, false, leb, List, length, Some, Err, vec_items, Result, sym, refl, ap, ◌∙◌, subst, ap₂, arith}
-use Rattle.std.proofs.lemmas.Bool.{le-leb, leb-true, lt-leb}
-use Rattle.address.specs.declared.Address.{Ghosts}
-use Rattle.address.specs.declared.prefix.Prefix.{Prefix}
+-- What a plan, routes and a call come to in the plain list, and the number of nodes that a call answers.
+use Rattle.std.proofs.Common.{◌≡◌, ℕ, ◌+◌, ◌-◌, ◌<◌, ◌≤◌, true, leb, List, length, Option, Some, sym, ap, ◌∙◌, subst, arith}
+use Rattle.std.specs.Prelude.{Vec, vec_items}
+use Rattle.std.specs.declared.alloc.Global.{Global}
+use Rattle.std.proofs.lemmas.Bool.{le-leb, lt-leb}
 use Rattle.bits.specs.Rows.{Bits}
-use Rattle.faults.specs.declared.Fault.{Fault}
-use Rattle.faults.specs.declared.Refusal.TheVariants.{Length, Shut, Stray}
-use Rattle.faults.specs.Numbers.{number_of, of_table}
+use Rattle.bits.specs.Order.{Sound}
 use Rattle.laws.proofs.Counts.{newly_counted}
 use Rattle.laws.proofs.Paths.{put_requires}
+use Rattle.laws.proofs.Plans.{planned as plan_facts}
 use Rattle.laws.proofs.Required.{no_longer}
+use Rattle.laws.proofs.TenGranted.{delete_granted, insert_full, insert_granted}
+use Rattle.faults.specs.declared.Layer.TheVariants.{Table}
+use Rattle.faults.specs.Numbers.{full}
 use Rattle.laws.specs.Counts.{count, missing}
-use Rattle.model.specs.TenCalls.{Answer, Call, insert}
-use Rattle.model.specs.Outcomes.{Outcome, refused}
+use Rattle.model.specs.Calls.{Plain, holding}
+use Rattle.model.specs.Outcomes.{Outcome, and_then, granted, refused}
 use Rattle.model.specs.Plans.{offsets, plan_ok}
 use Rattle.model.specs.Required.{required}
-use Rattle.model.specs.Routes.{Routes, find, put, sound, without}
-use Rattle.reference_nodes.specs.declared.RouteList.{RouteList}
-use Rattle.reference_nodes.specs.Shown.{Keeps, admitted, answer_of, left_of, prefix_bits, routes_of, shown}
+use Rattle.model.specs.Routes.{Routes, Ascending, prefix_of, find, last_hop, put, sound, without}
+use Rattle.model.specs.TenCalls.{Call, Done, after, answer, delete, deleted, done, insert, inserted, left_by, perform}
+use Rattle.routes.specs.Answered.{planned}
+use Rattle.reference_nodes.specs.Required.{plan_fits}
 
--- a refusal as the model has it
-abbrev pub told : Fault → Outcome Answer
-told f = refused (number_of f.refusal) f.layer f.place
+module _ (W : ℕ) (o : Option (Vec ℕ Global)) (plan : Vec ℕ Global) (is : o ≡ Some plan) where
+  pub fits : plan_fits W o ≡ true → plan_ok W (vec_items plan) ≡ true
+  fits h = ap (plan_fits W) (sym is) ∙ h
 
--- a refused call: by number, layer and place, and what it leaves
-pub record TurnedDown {X : Type 0} {G : Ghosts X} (bits : X → Bits) (W : ℕ) (t : RouteList X G) (call : Call) (f : Fault) : Type 0 where
-  pub answer : told f ≡ answer_of bits W t call
-  pub left : shown bits t ≡ left_of bits W t call
+  pub few : plan_fits W o ≡ true → length (vec_items plan) ≤ 32
+  few h = (plan_facts W (vec_items plan) (fits h)).few
 
-module _ {X : Type 0} {G : Ghosts X} (bits : X → Bits) (W : ℕ) (t : RouteList X G) (a : Bits) (l h : ℕ) where
-  -- an insert that the first tests refuse
-  pub not_admitted : (f : Fault) → Err f ≡ admitted t.opened W a l → TurnedDown bits W t (insert a l h) f
-  not_admitted f = by t.opened (leb l W) (sound a l) refl refl refl
-    where
-      by : (p q r : Bool) → t.opened ≡ p → leb l W ≡ q → sound a l ≡ r → Err f ≡ admitted t.opened W a l → TurnedDown bits W t (insert a l h) f
-      by true true true e u v no-fault = let wrong = simp (e, u, v) at no-fault in let z : ◌≡◌ {A = ℕ} 0 1 = cc in absurd (omega arith)
-      by true true false e u v so =
-          let faults : ◌≡◌ {A = Result (Unit {0}) Fault} (Err f) (Err (of_table Stray)) = simp (e, u, v) at so in
-          let is : f ≡ of_table Stray = cc in
-          record { answer = simp (e, u, v) (ap told is); left = simp (e, u, v) }
-      by true false r e u v so =
-          let faults : ◌≡◌ {A = Result (Unit {0}) Fault} (Err f) (Err (of_table Length)) = simp (e, u) at so in
-          let is : f ≡ of_table Length = cc in
-          record { answer = simp (e, u) (ap told is); left = simp (e, u) }
-      by false q r e u v so =
-          let faults : ◌≡◌ {A = Result (Unit {0}) Fault} (Err f) (Err (of_table Shut)) = simp e at so in
-          let is : f ≡ of_table Shut = cc in
-          record { answer = simp e (ap told is); left = simp e }
+  -- what a call on the open list comes to
+  module _ (N : ℕ) (rs : Routes) (call : Call) (d : Outcome Done) (so : perform W N (holding (vec_items plan) rs) call ≡ d) where
+    pub is_open : planned o rs ≡ holding (vec_items plan) rs
+    is_open = ap (λ (q : Option (Vec ℕ Global)). planned q rs) is
 
-module _ {X : Type 0} {G : Ghosts X} (bits : X → Bits) (W : ℕ) (t : RouteList X G) (p : Prefix X) (long : length (bits p.address) ≡ W) (short : leb p.length W ≡ true)
-    (is_open : t.opened ≡ true) (k : Keeps bits W t) where
-  abbrev rs : Routes
-  rs = routes_of bits t
+    pub answered : answer W N (planned o rs) call ≡ and_then d (λ x. granted x.answered)
+    answered =
+        ap (λ (p : Plain). answer W N p call) is_open
+        ∙ ap (λ (q : Outcome Done). and_then q (λ x. granted x.answered)) so
 
-  abbrev plan : List ℕ
-  plan = vec_items t.plan
+    pub left_is : after W N (planned o rs) call ≡ left_by (holding (vec_items plan) rs) d
+    left_is = ap (λ (p : Plain). after W N p call) is_open ∙ ap (left_by (holding (vec_items plan) rs)) so
 
-  abbrev q : Bits
-  q = prefix_bits bits p
+-- the tests of a sound prefix pass
+module _ (W : ℕ) (a : Bits) (l : ℕ) (long : length a ≡ W) (s : Sound a l) where
+  pub short : leb l W ≡ true
+  short = let h = s.0 in le-leb l W (omega arith)
 
-  planned : plan_ok (length (bits p.address)) plan ≡ true
-  planned = subst (λ (w : ℕ). plan_ok w plan ≡ true) (sym long) (k.planned is_open)
+  pub clean : sound a l ≡ true
+  clean = s.1
 
-  fits : p.length ≤ length (bits p.address)
-  fits = let h = leb-true p.length W short in omega arith
+module _ (W : ℕ) (plan : List ℕ) (rs : Routes) (a : Bits) (l : ℕ) (long : length a ≡ W) (ok : plan_ok W plan ≡ true) (s : Sound a l) where
+  planned_so : plan_ok (length a) plan ≡ true
+  planned_so = subst (λ (w : ℕ). plan_ok w plan ≡ true) (sym long) ok
 
   -- the nodes that are missing are those that the route more requires
-  pub taken_are : (n h : ℕ) → n ≡ count (missing rs (bits p.address) p.length) (offsets plan) → required plan (put rs q h) ≡ t.required + n
+  pub taken_are : (n h : ℕ) → n ≡ count (missing rs a l) (offsets plan) → required plan (put rs (prefix_of a l) h) ≡ required plan rs + n
   taken_are n h e =
-      put_requires plan rs q h
-      ∙ ap₂ (λ x y. x + y) (sym (k.counted is_open)) (newly_counted (bits p.address) p.length plan rs planned fits ∙ sym e)
+      put_requires plan rs (prefix_of a l) h ∙ ap (λ (m : ℕ). required plan rs + m) (newly_counted a l plan rs planned_so s.0 ∙ sym e)
 
   -- and once the route is gone those that it alone required
-  pub returned_are : (n h : ℕ) → find rs q ≡ Some h → n ≡ count (missing (without rs q) (bits p.address) p.length) (offsets plan)
-      → t.required ≡ required plan (without rs q) + n
-  returned_are n h there e =
-      k.counted is_open
-      ∙ no_longer plan rs q h k.ascends there
-      ∙ ap (λ m. required plan (without rs q) + m) (newly_counted (bits p.address) p.length plan (without rs q) planned fits ∙ sym e)
+  pub returned_are : (n h : ℕ) → Ascending rs → find rs (prefix_of a l) ≡ Some h → n ≡ count (missing (without rs (prefix_of a l)) a l) (offsets plan)
+      → required plan rs ≡ required plan (without rs (prefix_of a l)) + n
+  returned_are n h up there e =
+      no_longer plan rs (prefix_of a l) h up there
+      ∙ ap (λ (m : ℕ). required plan (without rs (prefix_of a l)) + m) (newly_counted a l plan (without rs (prefix_of a l)) planned_so s.0 ∙ sym e)
 
-  module _ (n h : ℕ) (e : n ≡ count (missing rs (bits p.address) p.length) (offsets plan)) where
-    pub room : n ≤ t.nodes - t.required → leb (required plan (put rs q h)) t.nodes ≡ true
-    room l = let enough = t.enough in let sums = taken_are n h e in le-leb (required plan (put rs q h)) t.nodes (omega arith)
+-- An insert on an open list: W, N, its plan and routes, how many nodes they require, and the route; n nodes on its way are missing.
+module _ (W N : ℕ) (plan : List ℕ) (rs : Routes) (needs : ℕ) (counts : needs ≡ required plan rs) (enough : needs ≤ N) (ok : plan_ok W plan ≡ true)
+    (a : Bits) (l h n : ℕ) (long : length a ≡ W) (s : Sound a l) (small : h ≤ last_hop) (missed : n ≡ count (missing rs a l) (offsets plan)) where
+  abbrev pub then_held : Routes
+  then_held = put rs (prefix_of a l) h
 
-    pub no_room : t.nodes - t.required < n → leb (required plan (put rs q h)) t.nodes ≡ false
-    no_room l = let enough = t.enough in let sums = taken_are n h e in lt-leb (required plan (put rs q h)) t.nodes (omega arith)
+  pub then_required : required plan then_held ≡ needs + n
+  then_required = let t = taken_are W plan rs a l long ok s n h missed in omega arith
 
-    pub taken_so : n ≡ required plan (put rs q h) - required plan rs
-    taken_so = let sums = taken_are n h e in let now = k.counted is_open in omega arith
+  pub no_room : N - needs < n → perform W N (holding plan rs) (insert a l h) ≡ refused full Table 0
+  no_room more =
+      insert_full W N plan rs a l (short W a l long s) (clean W a l long s) h (le-leb h last_hop small)
+      (let t = then_required in lt-leb (required plan then_held) N (omega arith))
+
+  pub room : n ≤ N - needs → perform W N (holding plan rs) (insert a l h) ≡ done (inserted (find rs (prefix_of a l)) n) (holding plan then_held)
+  room less =
+      insert_granted W N plan rs a l (short W a l long s) (clean W a l long s) h (le-leb h last_hop small)
+      (let t = then_required in le-leb (required plan then_held) N (omega arith))
+      ∙ ap (λ (k : ℕ). done (inserted (find rs (prefix_of a l)) k) (holding plan then_held)) (let t = then_required in omega arith)
+
+-- a delete on an open list, of a route that is there: n nodes on its way are missing once it is gone
+module _ (W N : ℕ) (plan : List ℕ) (rs : Routes) (needs : ℕ) (counts : needs ≡ required plan rs) (ok : plan_ok W plan ≡ true) (up : Ascending rs)
+    (a : Bits) (l h n : ℕ) (long : length a ≡ W) (s : Sound a l) (there : find rs (prefix_of a l) ≡ Some h)
+    (missed : n ≡ count (missing (without rs (prefix_of a l)) a l) (offsets plan)) where
+  pub still_required : needs ≡ required plan (without rs (prefix_of a l)) + n
+  still_required = let r = returned_are W plan rs a l long ok s n h up there missed in omega arith
+
+  pub gone : perform W N (holding plan rs) (delete a l) ≡ done (deleted h n) (holding plan (without rs (prefix_of a l)))
+  gone =
+      delete_granted W N plan rs a l (short W a l long s) (clean W a l long s) h there
+      ∙ ap (λ (k : ℕ). done (deleted h k) (holding plan (without rs (prefix_of a l)))) (let r = still_required in omega arith)

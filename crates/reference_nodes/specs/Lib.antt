@@ -1,2 +1,2 @@
+pub mod Required
 pub mod Shown
-pub mod Found

@@ -1,48 +1,44 @@
 //! The second engine: a sorted list of routes, plain rather than fast. It is what the tree of nodes is compared with.
 #![tactic(auto)]
 
-ghost use Rattle.std.specs.Prelude.{◌≡◌, ◌≤◌, vec_len};
-ghost use Rattle.reference_nodes.specs.declared.Failure.TheVariants.{Refused, NoMemory};
+ghost use Rattle.std.specs.Prelude.{◌≡◌, ◌≤◌, true};
+ghost use Rattle.model.specs.Routes.{Ascending};
+ghost use Rattle.routes.specs.Ascends.{Ascending-prop};
+ghost use Rattle.reference_nodes.specs.Required.{plan_fits, required_by};
 
 use address::Address;
-use address::prefix::Prefix;
-use faults::Fault;
-use std::alloc::{AllocError, AllocFailed as NoRoom, Global};
+use routes::set::RouteSet;
+use std::alloc::Global;
 
 pub mod calls;
-mod places;
-mod plans;
 mod required;
 
-/// A prefix and the hop, 0 to 4095, for the addresses that it matches.
-#[derive(Clone, Copy)]
-pub struct Route<A: Address> {
-    pub prefix: Prefix<A>,
-    pub hop: u16,
-}
+pub use routes::Route;
+pub use routes::failure::Failure;
 
-/// A list of routes for a memory of so many nodes, of which the routes require so many: shut at first, then open with a plan.
+/// A list of routes for a memory of so many nodes, of which the routes require so many: shut while it has no plan.
 #[derive(Drop)]
 pub struct RouteList<A: Address> {
     heap: Global,
     nodes: usize,
     required: usize,
-    opened: bool,
-    plan: Vec<u8>,
-    routes: Vec<Route<A>>,
-    ghost enough: { required ≤ nodes },
-    ghost short: { vec_len plan ≤ 32 },
+    plan: Option<Vec<u8>>,
+    routes: RouteSet<A>,
+    pub ghost ascends: { Ascending routes.routes } by { Ascending-prop routes.routes },
+    pub ghost enough: { required ≤ nodes },
+    pub ghost fits: { plan_fits A.Address.WIDTH plan ≡ true },
+    pub ghost counted: { required ≡ required_by plan routes.routes },
 }
 
 /// What an insert answers: the hop that was replaced, if any, and how many nodes are newly required.
-#[derive(Clone, Copy)]
+#[derive(Clone, Copy, PartialEq, Eq, Debug)]
 pub struct Inserted {
     pub old: Option<u16>,
     pub taken: usize,
 }
 
 /// What a delete answers: the hop of the route, and how many nodes are no longer required.
-#[derive(Clone, Copy)]
+#[derive(Clone, Copy, PartialEq, Eq, Debug)]
 pub struct Deleted {
     pub hop: u16,
     pub returned: usize,
@@ -56,40 +52,9 @@ pub struct Matched<A: Address> {
 }
 
 /// How many routes there are, how many nodes they require, and how many are left.
-#[derive(Clone, Copy)]
+#[derive(Clone, Copy, PartialEq, Eq, Debug)]
 pub struct Counted {
     pub routes: usize,
     pub required: usize,
     pub free: usize,
-}
-
-/// Why a call that needs memory failed: it was refused, or there was no memory; either way the list is as it was.
-#[derive(Clone, Copy)]
-pub enum Failure {
-    Refused(Fault),
-    NoMemory,
-}
-
-impl From<Fault> for Failure {
-    ghost from_gives = { λ f r. r ≡ Refused f };
-
-    fn from(fault: Fault) -> Failure {
-        Failure::Refused(fault)
-    }
-}
-
-impl From<AllocError> for Failure {
-    ghost from_gives = { λ _ r. r ≡ NoMemory };
-
-    fn from(_e: AllocError) -> Failure {
-        Failure::NoMemory
-    }
-}
-
-impl<T: Drop> From<NoRoom<T>> for Failure {
-    ghost from_gives = { λ _ r. r ≡ NoMemory };
-
-    fn from(_e: NoRoom<T>) -> Failure {
-        Failure::NoMemory
-    }
 }

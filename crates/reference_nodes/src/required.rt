@@ -1,69 +1,85 @@
-ghost use Rattle.std.specs.Prelude.{◌≡◌, ◌≤◌, map, length};
-ghost use Rattle.std.specs.List.{AllByRecursion};
+ghost use Rattle.std.specs.Prelude.{◌≡◌, ◌≤◌, ℕ, ◌&&◌, Bool, length, nat_le};
+ghost use Rattle.std.specs.List.{list_any};
+ghost use Rattle.bits.specs.Order.{begins};
 ghost use Rattle.model.specs.Plans.{offsets};
 ghost use Rattle.laws.specs.Counts.{count, missing, needed, shared};
-ghost use Rattle.reference_nodes.specs.Shown.{meant, Held};
+ghost use Rattle.routes.specs.Meant.{prefix_bits};
 
-use crate::Route;
 use address::Address;
 use address::prefix::Prefix;
+use routes::Route;
+use routes::set::RouteSet;
+
+// Whether a route has a prefix of at least so many bits that the front begins.
+fn goes_through<A: Address>(route: &Route<A>, front: &Prefix<A>) -> bool
+    ensures { result ≡ (nat_le front.now.length route.now.prefix.length && begins (prefix_bits A.Address.bits front.now) (A.Address.bits route.now.prefix.address)) }
+{
+    route.prefix.length >= front.length && front.matches(&route.prefix.address)
+}
+
+// Whether there is such a route.
+fn passed_by_one<A: Address>(routes: &[Route<A>], front: &Prefix<A>) -> bool
+    ensures { result ≡ list_any (λ r. nat_le front.now.length r.prefix.length && begins (prefix_bits A.Address.bits front.now) (A.Address.bits r.prefix.address)) routes.now }
+{
+    routes.iter().any(|route| goes_through(route, front))
+}
 
 // Whether one of the routes has a prefix of at least so many bits that begins as the address does.
-fn shares<A: Address>(routes: &[Route<A>], address: &A, offset: u32) -> bool
-    ensures { AllByRecursion (Held A.Address.bits) routes.now → result ≡ shared (map (meant A.Address.bits) routes.now) (A.Address.bits address.now) offset }
+fn shares<A: Address>(routes: &RouteSet<A>, address: &A, offset: u32) -> bool
+    ensures { result ≡ shared routes.now.routes (A.Address.bits address.now) offset }
 {
     let front = Prefix {
         address: *address,
         length: offset,
     };
-    for i in 0..routes.len() {
-        let held = routes[i].prefix;
-        if held.length >= offset && front.matches(&held.address) {
-            return true;
-        }
-    }
-    false
+    passed_by_one(routes.as_slice(), &front)
 }
 
 // Whether the routes require the node that the first bits of an address lead to, so many: the root, or one that is shared.
-fn needs<A: Address>(routes: &[Route<A>], address: &A, offset: u32) -> bool
-    ensures { AllByRecursion (Held A.Address.bits) routes.now → result ≡ needed (map (meant A.Address.bits) routes.now) (A.Address.bits address.now) offset }
+fn needs<A: Address>(routes: &RouteSet<A>, address: &A, offset: u32) -> bool
+    ensures { result ≡ needed routes.now.routes (A.Address.bits address.now) offset }
 {
     offset == 0 || shares(routes, address, offset)
 }
 
-// How many of the nodes on the way to a prefix the routes do not require.
-pub(crate) fn missing_nodes<A: Address>(
-    routes: &[Route<A>],
-    plan: &[u8],
-    prefix: &Prefix<A>,
-) -> usize
-    requires { length plan.now ≤ 32 }
-    ensures { AllByRecursion (Held A.Address.bits) routes.now → result ≡ count (missing (map (meant A.Address.bits) routes.now) (A.Address.bits prefix.now.address) prefix.now.length) (offsets plan.now) }
+// That a plan has at most 32 strides is asked of three functions of this file alone, whose caller has it from its own ghost field.
+
+// How many of the offsets of a plan pass a test.
+fn count_offsets<F: Fn(u32) -> bool>(plan: &[u8], test: &F) -> usize
+    requires short { length plan.now ≤ 32 }
+    requires callable { F.IsAlwaysCallable test.now }
+    ensures { (passes : ℕ → Bool) → ((o : ℕ) (b : Bool) → F.post test.now o b → b ≡ passes o) → result ≡ count passes (offsets plan.now) }
 {
     let mut offset: u32 = 0;
     let mut nodes: usize = 0;
-    for i in 0..plan.len() {
-        if offset <= prefix.length && !needs(routes, &prefix.address, offset) {
+    for stride in plan {
+        if test(offset) {
             nodes += 1;
         }
-        offset += plan[i] as u32;
+        offset += u32::from(*stride);
     }
     nodes
 }
 
-// How many of the nodes that the routes require lie on the way of an address.
-pub(crate) fn path_nodes<A: Address>(routes: &[Route<A>], plan: &[u8], address: &A) -> usize
+// How many of the nodes on the way to a prefix the routes do not require.
+pub(crate) fn missing_nodes<A: Address>(
+    routes: &RouteSet<A>,
+    plan: &[u8],
+    prefix: &Prefix<A>,
+) -> usize
     requires { length plan.now ≤ 32 }
-    ensures { AllByRecursion (Held A.Address.bits) routes.now → result ≡ count (needed (map (meant A.Address.bits) routes.now) (A.Address.bits address.now)) (offsets plan.now) }
+    ensures { result ≡ count (missing routes.now.routes (A.Address.bits prefix.now.address) prefix.now.length) (offsets plan.now) }
 {
-    let mut offset: u32 = 0;
-    let mut nodes: usize = 0;
-    for i in 0..plan.len() {
-        if needs(routes, address, offset) {
-            nodes += 1;
-        }
-        offset += plan[i] as u32;
-    }
-    nodes
+    count_offsets(
+        plan,
+        &|offset| { offset <= prefix.length && !needs(routes, &prefix.address, offset) },
+    )
+}
+
+// How many of the nodes that the routes require lie on the way of an address.
+pub(crate) fn path_nodes<A: Address>(routes: &RouteSet<A>, plan: &[u8], address: &A) -> usize
+    requires { length plan.now ≤ 32 }
+    ensures { result ≡ count (needed routes.now.routes (A.Address.bits address.now)) (offsets plan.now) }
+{
+    count_offsets(plan, &|offset| needs(routes, address, offset))
 }

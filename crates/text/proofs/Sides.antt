@@ -1,27 +1,38 @@
 -- The groups of a text read so far, and one group more.
-use Rattle.std.proofs.Common.{◌≡◌, ℕ, ◌+◌, ◌-◌, ◌*◌, ◌^◌, ◌<◌, ◌≤◌, List, [], ◌∷◌, length, get_or, take, drop, Some, None, Option, sym, ap, ◌∙◌, subst, ap₂, ⊎_elim, arith, pow_mono, pow-add}
+use Rattle.std.proofs.Common.{◌≡◌, ℕ, Bool, ◌==◌, ◌+◌, ◌*◌, ◌^◌, ◌<◌, ◌≤◌, false, List, [], ◌∷◌, length, get_or, drop, Some, None, Option, sym, refl, ap, ◌∙◌, ⊎_elim, append-nil, subst, arith, pow_mono, pow-add}
 use lib.Arith.{digits_lt}
-use Rattle.std.proofs.lemmas.Bool.{cases_lt}
-use Rattle.std.proofs.lemmas.List.{take_rest, length-take-le, length-drop}
+use Rattle.std.specs.List.{onto_first}
+use Rattle.std.proofs.lemmas.Bool.{cases_eq}
+use Rattle.std.proofs.lemmas.List.{drop_more, drop_all}
+use Rattle.std.specs.declared.slice.Split.{Split}
+use Rattle.std.specs.Slice.Iter.{split_rest, split_done, split_callee, split_steps}
+use Rattle.std.specs.Fn.{CalledAt}
+use Rattle.std.specs.Iterator.{Yields}
+use Rattle.std.proofs.lemmas.Iterator.{YieldsList}
+use Rattle.std.proofs.lemmas.Iterator.Consumers.{YieldsList-at, YieldsList-turn, YieldsList-end}
+use Rattle.std.proofs.lemmas.Iterator.Splits.{YieldsList-from_slice_split}
+use denote.Param.Members.{Mut}
+use denote.Ref.{Bor}
 use Rattle.text.specs.Colons.{low_groups}
 use Rattle.text.specs.Words.{word, words, before, numbers, side, Beyond}
 use Rattle.text.specs.Groups.{length_low, low_more}
-use Rattle.text.specs.WordLists.{ahead, ahead_none, ahead_before, numbers_cons, numbers_nil, side_some, side_none, words_all, words_some, beyond_words}
+use Rattle.text.specs.WordLists.{ahead, ahead_none, ahead_before, beyond_before, words_by, words_colon, words_other, numbers_cons, numbers_nil, side_some, side_none}
 
--- the groups that were read, before the words of what is left of the text
-pub record Gone (t rest : List ℕ) (most count number : ℕ) : Type 0 where
-  pub few : count ≤ most
-  pub small : number < 2 ^ (16 * count)
-  pub part : length rest ≤ length t
-  pub so_far : numbers (words t) ≡ ahead (low_groups count number) (numbers (words rest))
+-- how many bytes words take, each with a colon behind it
+abbrev pub spans : List (List ℕ) → ℕ
+spans [] = 0
+spans (w ∷ ws) = length w + 1 + spans ws
 
-pub gone_none : (t : List ℕ) (most : ℕ) → Gone t t most 0 0
-unfolding low_groups
-gone_none t most = record { few = omega arith; small = omega arith; part = omega arith; so_far = ahead_none (numbers (words t)) }
-
-pub side_empty : (t : List ℕ) (most : ℕ) → length t ≡ 0 → (side t ≡ Some (low_groups 0 0)) × (0 ≤ most) × (0 < 1)
-unfolding low_groups
-side_empty t most e = (side_none t e, omega arith, omega arith)
+all_spans : (t : List ℕ) → spans (words t) ≡ length t + 1
+unfolding words
+all_spans [] = refl
+all_spans (c ∷ cs) = ⊎_elim
+    (λ e. ap (λ x. spans (words (x ∷ cs))) e ∙ ap spans (words_colon cs) ∙ omega (arith, all_spans cs))
+    (λ e.
+    let more : spans (onto_first c (words cs)) ≡ 1 + spans (words cs) =
+    words_by (λ ws. spans (onto_first c ws) ≡ 1 + spans ws) (λ w ws. omega arith) cs in
+    ap spans (words_other c cs e) ∙ omega (arith, more, all_spans cs))
+    (cases_eq c 58)
 
 pub number_low : (count number : ℕ) → count < 8 → number < 2 ^ (16 * count) → number < 2 ^ 112
 number_low count number h l =
@@ -29,65 +40,88 @@ number_low count number h l =
     let p : 2 ^ (16 * count) ≤ 2 ^ 112 = pow_mono m in
     omega arith
 
-number_more : (count number g : ℕ) → number < 2 ^ (16 * count) → g < 2 ^ 16 → number * 65536 + g < 2 ^ (16 * (count + 1))
+pub number_more : (count number g : ℕ) → number < 2 ^ (16 * count) → g < 2 ^ 16 → number * 65536 + g < 2 ^ (16 * (count + 1))
 number_more count number g h l =
     let e : 16 * (count + 1) ≡ 16 * count + 16 = omega arith in
     subst (λ x. number * 65536 + g < x) (sym (ap (λ k. 2 ^ k) e ∙ pow-add 2 (16 * count) 16)) (digits_lt h l)
 
-module _ (t rest : List ℕ) (most count number : ℕ) (some : 0 < length t) (s : Gone t rest most count number) where
-  -- a word too many
-  pub side_over : count ≡ most → (length t - length rest ≤ length t) × Beyond most (side t)
-  side_over e =
-      let l = length_low count number in (
-        omega arith,
-        subst (Beyond most) (sym (side_some t some ∙ s.so_far)) (beyond_words (low_groups count number) most (omega arith) rest),
-      )
+-- the first n words were read: they take so many bytes, and their groups stand before those of the other words
+pub record Gone (t : List ℕ) (most count number n place : ℕ) : Type 0 where
+  pub some : 0 < length t
+  pub few : count ≤ most
+  pub small : number < 2 ^ (16 * count)
+  pub part : place + spans (drop n (words t)) ≡ length t + 1
+  pub so_far : numbers (words t) ≡ ahead (low_groups count number) (numbers (drop n (words t)))
 
-  module _ (n : ℕ) (within : n ≤ length rest) (plain : (k : ℕ) → k < n → get_or rest k 0 ≡ 58 → ⊥) (found : n < length rest → get_or rest n 0 ≡ 58) where
-    first : (ws : List (List ℕ)) → words rest ≡ take n rest ∷ ws → (o : Option ℕ) → word (take (n - 0) rest) ≡ o → side t ≡ ahead (low_groups count number) (before o (numbers ws))
-    first ws e o is =
-        let same : n ≡ n - 0 = omega arith in
-        side_some t some ∙ s.so_far
-        ∙ ap (ahead (low_groups count number))
-        (ap numbers e ∙ numbers_cons (take n rest) ws ∙ ap (λ x. before x (numbers ws)) (ap (λ k. word (take k rest)) same ∙ is))
+pub gone_none : (t : List ℕ) (most : ℕ) → 0 < length t → Gone t most 0 0 0 0
+unfolding low_groups
+gone_none t most h = record { some = h; few = omega arith; small = omega arith; part = omega (arith, all_spans t); so_far = ahead_none (numbers (words t)) }
+
+pub side_empty : (t : List ℕ) → length t ≡ 0 → side t ≡ Some (low_groups 0 0)
+unfolding low_groups
+side_empty t e = side_none t e
+
+module _ {t : List ℕ} {most count number n place : ℕ} (s : Gone t most count number n place) where
+  -- every word was read
+  pub side_done : length (words t) ≤ n → side t ≡ Some (low_groups count number)
+  side_done e =
+      side_some t s.some ∙ s.so_far
+      ∙ ap (λ ws. ahead (low_groups count number) (numbers ws)) (drop_all n (words t) e)
+      ∙ ap (ahead (low_groups count number)) numbers_nil
+      ∙ ap (λ gs. Some gs) (append-nil (low_groups count number))
+
+  module _ (w : List ℕ) (here : (n < length (words t)) × (w ≡ get_or (words t) n w)) where
+    split : drop n (words t) ≡ w ∷ drop (n + 1) (words t)
+    split = drop_more (words t) n w here.0 ∙ ap (λ x. x ∷ drop (n + 1) (words t)) (sym here.1)
+
+    span_is : spans (drop n (words t)) ≡ length w + 1 + spans (drop (n + 1) (words t))
+    span_is = ap spans split
+
+    pub word_within : place + length w ≤ length t
+    word_within = omega (arith, s.part, span_is)
+
+    so_far_is : side t ≡ ahead (low_groups count number) (before (word w) (numbers (drop (n + 1) (words t))))
+    so_far_is =
+        side_some t s.some ∙ s.so_far
+        ∙ ap (λ ws. ahead (low_groups count number) (numbers ws)) split
+        ∙ ap (ahead (low_groups count number)) (numbers_cons w (drop (n + 1) (words t)))
+
+    -- a word too many
+    pub side_over : count ≡ most → Beyond most (side t)
+    side_over e =
+        let l = length_low count number in
+        subst (Beyond most) (sym so_far_is) (beyond_before (low_groups count number) most (omega arith) (word w) (numbers (drop (n + 1) (words t))))
 
     -- no word
-    pub side_strange : (stopped : ℕ) → (stopped ≤ length (take (n - 0) rest)) × (word (take (n - 0) rest) ≡ None) → (length t - length rest + stopped ≤ length t) × Beyond most (side t)
-    side_strange stopped is =
-        let same : n - 0 ≡ n = omega arith in
-        let l : length (take (n - 0) rest) ≡ n = ap (λ k. length (take k rest)) same ∙ length-take-le n rest within in
-        let p = s.part in
-        let gone : side t ≡ None = ⊎_elim
-        (λ h. first (words (drop (n + 1) rest)) (words_some rest n within plain h (found h)) None is.1)
-        (λ h. first [] (words_all rest n within plain (omega arith)) None is.1)
-        (cases_lt n (length rest)) in
-        (omega (arith, is.0), subst (Beyond most) (sym gone) tt)
+    pub side_strange : word w ≡ None → Beyond most (side t)
+    side_strange e = subst (Beyond most) (sym (so_far_is ∙ ap (λ o. ahead (low_groups count number) (before o (numbers (drop (n + 1) (words t))))) e)) tt
 
-    module _ (g : ℕ) (low : g < 2 ^ 16) (is : word (take (n - 0) rest) ≡ Some g) (room : count < most) where
-      -- the last word
-      pub side_done : n ≡ length rest → (side t ≡ Some (low_groups (count + 1) (number * 65536 + g))) × (count + 1 ≤ most) × (number * 65536 + g < 2 ^ (16 * (count + 1)))
-      side_done e = (
-        first [] (words_all rest n within plain e) (Some g) is
-            ∙ ap (λ o. ahead (low_groups count number) (before (Some g) o)) numbers_nil
-            ∙ ap (λ l. Some l) (sym (low_more count number g low)),
-        omega arith,
-        number_more count number g s.small low,
-      )
+    -- one word more
+    pub side_more : (g : ℕ) → g < 2 ^ 16 → word w ≡ Some g → count < most → Gone t most (count + 1) (number * 65536 + g) (n + 1) (place + (length w + 1))
+    side_more g low e room =
+        record {
+          some = s.some;
+          few = omega arith;
+          small = number_more count number g s.small low;
+          part = omega (arith, s.part, span_is);
+          so_far =
+              sym (side_some t s.some) ∙ so_far_is
+              ∙ ap (λ o. ahead (low_groups count number) (before o (numbers (drop (n + 1) (words t))))) e
+              ∙ ahead_before (low_groups count number) g (numbers (drop (n + 1) (words t)))
+              ∙ ap (λ gs. ahead gs (numbers (drop (n + 1) (words t)))) (sym (low_more count number g low));
+        }
 
-      -- one word more
-      pub side_more : n < length rest → Gone t (take (length rest - (n + 1)) (drop (n + 1) rest)) most (count + 1) (number * 65536 + g)
-      side_more h =
-          let back = take_rest rest (n + 1) in
-          let p = s.part in
-          let l = length-drop (n + 1) rest in
-          let q : length (take (length rest - (n + 1)) (drop (n + 1) rest)) ≡ length (drop (n + 1) rest) = ap length back in
-          record {
-            few = omega arith;
-            small = number_more count number g s.small low;
-            part = omega arith;
-            so_far =
-                sym (side_some t some)
-                ∙ first (words (drop (n + 1) rest)) (words_some rest n within plain h (found h)) (Some g) is
-                ∙ ahead_before (low_groups count number) g (numbers (words (drop (n + 1) rest)))
-                ∙ ap₂ (λ gs r. ahead gs (numbers (words r))) (sym (low_more count number g low)) (sym back);
-          }
+-- ---- the words that a split at colons gives
+
+module _ {F : Type 0} {g : Mut F (Bor ℕ × Unit {0}) Bool} {s s' : Split ℕ F} {f : F} (t : List ℕ) (same : s' ≡ s) (rest : split_rest s ≡ t) (done : split_done s ≡ false) (callee : split_callee s ≡ f)
+    (xs : List (Bor (List ℕ))) (u v : Split ℕ F) (yielded : Yields (split_steps g) s' xs u) (r : Option (Bor (List ℕ))) (steps : split_steps g u r v)
+    (computes : (x : ℕ) (b : Bool) (q : F) → CalledAt g f x b q → (q ≡ f) × (b ≡ (x == 58))) where
+  road : YieldsList (split_steps g) (λ x. x.now) s' (words t)
+  unfolding words
+  road = YieldsList-at same (YieldsList-from_slice_split _ (λ c. c == 58) t rest done callee computes)
+
+  pub next_word : (w : Bor (List ℕ)) → r ≡ Some w → (length xs < length (words t)) × (w.now ≡ get_or (words t) (length xs) w.now)
+  next_word w is = YieldsList-turn road xs u yielded r v w is steps
+
+  pub last_word : r ≡ None → length (words t) ≤ length xs
+  last_word is = omega (arith, (YieldsList-end road xs u yielded r v is steps).1)

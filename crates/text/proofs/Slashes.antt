@@ -1,5 +1,5 @@
 -- The last slash of a text is where the text of a prefix is taken apart.
-use Rattle.std.proofs.Common.{◌≡◌, ℕ, suc, ◌+◌, ◌-◌, ◌^◌, ◌<◌, ◌≤◌, List, ◌∷◌, ◌++◌, length, get_or, take, drop, decimal, sym, refl, ap, ◌∙◌, subst, ap₂, ⊎_elim, mod-eq_of_lt, arith, length-append, length-drop}
+use Rattle.std.proofs.Common.{◌≡◌, ℕ, suc, ◌+◌, ◌-◌, ◌^◌, ◌<◌, ◌≤◌, List, ◌∷◌, ◌++◌, length, slice_index, take, drop, decimal, sym, refl, ap, ◌∙◌, subst, ap₂, ⊎_elim, mod-eq_of_lt, arith, length-append, length-drop}
 use Rattle.std.proofs.lemmas.Bool.{cases_order}
 use Rattle.std.proofs.lemmas.List.{take-append-drop, take_at, drop_at, drop_more, get_or_at, get_or-append_right}
 use Rattle.std.proofs.lemmas.Str.Parse.{digit_at}
@@ -11,8 +11,8 @@ decimal_unslashed : (n : ℕ) → n < 2 ^ 64 → Unslashed (decimal n)
 decimal_unslashed n h k l e = omega (arith, digit_at (decimal n) k (decimal_is_IsNumeral n h).0.1 l)
 
 -- a slash stands in the text
-slash_at : (text t s : List ℕ) → text ≡ t ++ (47 ∷ s) → get_or text (length t) 0 ≡ 47
-slash_at text t s e = ap (λ x. get_or x (length t) 0) e ∙ get_or_at t 47 s 0 (length t) refl
+slash_at : (text t s : List ℕ) → text ≡ t ++ (47 ∷ s) → slice_index text (length t) ≡ 47
+slash_at text t s e = ap (λ x. slice_index x (length t)) e ∙ get_or_at t 47 s 0 (length t) refl
 
 long : (text t s : List ℕ) → text ≡ t ++ (47 ∷ s) → length text ≡ length t + 1 + length s
 long text t s e = omega (arith, ap length e, length-append t (47 ∷ s))
@@ -32,8 +32,8 @@ parted text t s i h e none =
     (λ less.
     let j : i - length t ≡ suc (i - length t - 1) = omega arith in
     absurd (none (i - length t - 1) (omega (arith, h.within))
-    (ap (λ x. get_or (47 ∷ s) x 0) (sym j) ∙ sym (get_or-append_right t (47 ∷ s) (length t) i 0 refl (omega arith))
-    ∙ sym (ap (λ x. get_or x i 0) e) ∙ h.is)))
+    (ap (λ x. slice_index (47 ∷ s) x) (sym j) ∙ sym (get_or-append_right t (47 ∷ s) (length t) i 0 refl (omega arith))
+    ∙ sym (ap (λ x. slice_index x i) e) ∙ h.is)))
     (λ more. absurd (h.last (length t) more (omega arith) (slash_at text t s e))))
     (cases_order (length t) i) in
     record {

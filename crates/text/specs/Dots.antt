@@ -1,5 +1,5 @@
 -- Bytes in decimal with dots between them: how such a text is taken apart, and where reading it stops.
-use Rattle.std.specs.Prelude.{◌≡◌, ℕ, zero, suc, ◌+◌, ◌*◌, ◌/◌, ◌%◌, ◌^◌, ◌<◌, ◌≤◌, List, ◌∷◌, ◌++◌, length, take, drop, decimal, ◌≢◌, slice_index, slice_index_or}
+use Rattle.std.specs.Prelude.{◌≡◌, ℕ, zero, suc, ◌+◌, ◌*◌, ◌/◌, ◌%◌, ◌^◌, ◌<◌, ◌≤◌, List, ◌∷◌, ◌++◌, length, take, drop, decimal, ◌≢◌, slice_index}
 use Rattle.std.proofs.Common.{sym, ap₂, ◌∙◌, subst, append_assoc, ⊎_elim, arith, mod-lt, mod-eq_of_lt, mul_assoc, div-add-mod', length-drop, take-add, pow_pos, pow_mono, pow-add}
 use Rattle.std.proofs.Math.Path.{ap}
 use Rattle.std.proofs.Math.Nat.{mul-add-div_right, mul-add-mod_self_right}
@@ -112,7 +112,7 @@ module _ {text : List ℕ} {n end : ℕ} (l : Longest 255 text n end) where
             (cases_lt end (length text));
       }
 
-  module _ (h : end < length text) (dot : slice_index_or text end 0 ≡ 46) where
+  module _ (h : end < length text) (dot : slice_index text end ≡ 46) where
     after : text ≡ decimal n ++ (46 ∷ drop (end + 1) text)
     after = front l ∙ ap (λ t. decimal n ++ t) (drop_more text end 0 h ∙ ap (λ c. c ∷ drop (end + 1) text) dot)
 

@@ -1,10 +1,10 @@
 -- A text read word by word.
-use Rattle.std.specs.Prelude.{◌≡◌, ℕ, zero, suc, ◌+◌, ◌*◌, ◌^◌, ◌<◌, ◌≤◌, true, false, cond, ◌&&◌, ◌⊎◌, List, [], ◌∷◌, ◌++◌, length, take, drop, Some, None, Option, ◌==◌, ◌≢◌, nat_le, nat_lt, slice_index, slice_index_or, refl}
-use Rattle.std.proofs.Common.{sym, ap, ap₂, subst, ◌∙◌, append_assoc, append-nil, ⊎_elim, arith}
+use Rattle.std.specs.Prelude.{◌≡◌, ℕ, zero, suc, ◌+◌, ◌*◌, ◌^◌, ◌<◌, ◌≤◌, true, false, cond, ◌&&◌, List, [], ◌∷◌, ◌++◌, length, drop, Some, None, Option, ◌==◌, ◌≢◌, nat_le, nat_lt, slice_index, refl}
+use Rattle.std.proofs.Common.{sym, ap, ap₂, subst, ◌∙◌, arith}
 use Rattle.std.specs.Str.Parse.{digits_value, digits_value_after}
 use Rattle.std.specs.Char.{digit_value}
-use Rattle.std.proofs.lemmas.Bool.{eq-eqb, ne_eqb, lt-ltb, le-ltb, le-leb, lt-leb, and_left, and_right, cases_lt}
-use Rattle.std.proofs.lemmas.List.{drop_more, drop_all, take_more, get_or-drop, drop-drop, at_drop_more, at_drop_all}
+use Rattle.std.proofs.lemmas.Bool.{eq-eqb, ne_eqb, lt-ltb, le-ltb, le-leb, lt-leb, and_left, and_right}
+use Rattle.std.proofs.lemmas.List.{at_drop_more, at_drop_all}
 use Rattle.text.specs.Words.{hexadecimal, word, further, parts}
 
 -- ---- one word
@@ -54,13 +54,6 @@ pub moved_none : (o : Option (List ℕ × List ℕ)) → moved [] o ≡ o
 moved_none None = refl
 moved_none (Some p) = refl
 
-pub moved_start : (t : List ℕ) → parts t ≡ moved [] (parts t)
-moved_start t = sym (moved_none (parts t))
-
-pub moved_further : (front : List ℕ) (c : ℕ) (o : Option (List ℕ × List ℕ)) → moved front (further c o) ≡ moved (front ++ c ∷ []) o
-moved_further front c None = refl
-moved_further front c (Some p) = ap (λ l. Some (l, p.1)) (sym (append_assoc front (c ∷ []) p.0))
-
 pub parts_here : (c : ℕ) (cs : List ℕ) → c ≡ 58 → slice_index cs 0 ≡ 58 → parts (c ∷ cs) ≡ Some ([], drop 1 cs)
 unfolding parts
 parts_here c cs e f =
@@ -96,43 +89,6 @@ below_more (suc (suc zero)) n d h k l = omega arith
 below_more (suc (suc (suc zero))) n d h k l = omega arith
 below_more (suc (suc (suc (suc i)))) n d h k l = omega arith
 
--- ---- two colons in a row, found from the front
-
-module _ (t : List ℕ) (i : ℕ) where
-  second : slice_index_or (drop (i + 1) t) 0 0 ≡ slice_index t (i + 1)
-  second = get_or-drop (i + 1) t 0 0 ∙ ap (λ n. slice_index t n) (omega arith)
-
-  pub colons_found : i + 1 < length t → parts t ≡ moved (take i t) (parts (drop i t)) → slice_index t i ≡ 58 → slice_index t (i + 1) ≡ 58
-      → (i + 2 ≤ length t) × (parts t ≡ Some (take i t, drop (i + 2) t))
-  colons_found h inv e f = (
-    omega arith,
-    inv
-        ∙ ap (λ l. moved (take i t) (parts l)) (drop_more t i 0 (omega arith))
-        ∙ ap (moved (take i t)) (parts_here (slice_index t i) (drop (i + 1) t) e (second ∙ f))
-        ∙ ap₂ (λ a b. Some (a, b)) (append-nil (take i t)) (drop-drop 1 (i + 1) t ∙ ap (λ n. drop n t) (omega arith)),
-  )
-
-  pub colons_passed : i + 1 < length t → parts t ≡ moved (take i t) (parts (drop i t)) → (slice_index t i ≢ 58) ⊎ (slice_index t (i + 1) ≢ 58)
-      → parts t ≡ moved (take (i + 1) t) (parts (drop (i + 1) t))
-  colons_passed h inv way =
-      inv
-      ∙ ap (λ l. moved (take i t) (parts l)) (drop_more t i 0 (omega arith))
-      ∙ ap (moved (take i t)) (⊎_elim
-      (λ e. parts_single (slice_index t i) (drop (i + 1) t) e)
-      (λ e. parts_colon (slice_index t i) (drop (i + 1) t) (λ f. e (sym second ∙ f)))
-      way)
-      ∙ moved_further (take i t) (slice_index t i) (parts (drop (i + 1) t))
-      ∙ ap (λ l. moved l (parts (drop (i + 1) t))) (sym (take_more t i 0 (omega arith)))
-
-  pub colons_missing : length t ≤ i + 1 → parts t ≡ moved (take i t) (parts (drop i t)) → parts t ≡ None
-  colons_missing h inv = inv ∙ ap (moved (take i t)) (⊎_elim
-      (λ l.
-      ap parts (drop_more t i 0 l ∙ ap (λ r. slice_index t i ∷ r) (drop_all (i + 1) t h))
-      ∙ parts_colon (slice_index t i) [] (λ e. omega (arith, e))
-      ∙ ap (further (slice_index t i)) parts_empty)
-      (λ l. ap parts (drop_all i t l) ∙ parts_empty)
-      (cases_lt i (length t)))
-
 -- ---- one digit of a word more
 
 pub record Digit (t : List ℕ) (i n : ℕ) : Type 0 where
@@ -149,9 +105,6 @@ digit_more t i n c d few h s e is =
       number = ap (λ x. digits_value_after 16 (n * 16 + x) (drop (i + 1) t)) same ∙ sym (at_drop_more (digits_value_after 16 n) t i 0 h) ∙ s.number;
       digits = sym (hexadecimal_more (slice_index t i) (drop (i + 1) t) l) ∙ sym (at_drop_more hexadecimal t i 0 h) ∙ s.digits;
     }
-
-pub digit_none : (t : List ℕ) → Digit t 0 0
-digit_none t = record { bound = omega arith; number = refl; digits = refl }
 
 pub digit_strange : (t : List ℕ) (i n c : ℕ) → i < length t → Digit t i n → c ≡ slice_index t i → (digit_value c < 16 → ⊥) → word t ≡ None
 digit_strange t i n c h s e no' =

@@ -1,5 +1,6 @@
 -- What the text of an IPv6 address stands for: words between colons, and two colons in a row for the zero groups that are left out.
-use Rattle.std.specs.Prelude.{ℕ, ◌+◌, ◌-◌, ◌<◌, Bool, true, cond, ◌&&◌, List, [], ◌∷◌, ◌++◌, length, drop, replicate, Some, None, Option, ◌==◌, nat_le, nat_lt, slice_index}
+use Rattle.std.specs.Prelude.{◌≡◌, ℕ, ◌+◌, ◌-◌, ◌<◌, Bool, true, cond, ◌&&◌, List, [], ◌∷◌, ◌++◌, length, drop, replicate, Some, None, Option, ◌==◌, nat_le, nat_lt, slice_index}
+use Rattle.std.specs.List.{slice_split}
 use Rattle.std.specs.Char.{digit_value}
 use Rattle.std.specs.Str.Parse.{digits_value}
 
@@ -12,15 +13,9 @@ hexadecimal (c ∷ cs) = nat_lt (digit_value c) 16 && hexadecimal cs
 unfoldable pub word : List ℕ → Option ℕ
 word w = cond (nat_lt 0 (length w) && (nat_le (length w) 4 && hexadecimal w)) (Some (digits_value 16 w)) None
 
--- a byte put before the first word
-abbrev pub longer : ℕ → List (List ℕ) → List (List ℕ)
-longer c [] = (c ∷ []) ∷ []
-longer c (w ∷ ws) = (c ∷ w) ∷ ws
-
 -- the words of a text between its colons; they may be empty
 unfoldable pub words : List ℕ → List (List ℕ)
-words [] = [] ∷ []
-words (c ∷ cs) = cond (c == 58) ([] ∷ words cs) (longer c (words cs))
+words t = slice_split (λ c. c == 58) t
 
 -- a number before others, where all are there
 abbrev pub before : Option ℕ → Option (List ℕ) → Option (List ℕ)
@@ -72,3 +67,7 @@ read_colons t = by_parts t (parts t)
 abbrev pub Beyond : ℕ → Option (List ℕ) → Type 0
 Beyond most None = Unit {0}
 Beyond most (Some gs) = most < length gs
+
+-- two colons in a row begin at this place
+abbrev pub TwoColons : List ℕ → ℕ → Type 0
+TwoColons t k = (slice_index t k ≡ 58) × (slice_index t (k + 1) ≡ 58)

@@ -16,10 +16,9 @@ unfolding written
 written_none bs gs e = sym (ap (λ l. bs ++ written l) (nil_from_length gs e) ∙ append-nil bs)
 
 -- one group more, after its colon
-pub written_more : (bs gs : List ℕ) (i : ℕ) (now : List ℕ) → i < length gs → now ≡ ((bs ++ flat_map behind (take i gs)) ++ 58 ∷ []) ++ hex (slice_index gs i) → now ≡ bs ++ flat_map behind (take (i + 1) gs)
+pub written_more : (bs gs : List ℕ) (i : ℕ) (now : List ℕ) → i < length gs → now ≡ (bs ++ flat_map behind (take i gs)) ++ behind (slice_index gs i) → now ≡ bs ++ flat_map behind (take (i + 1) gs)
 written_more bs gs i now h e =
     e
-    ∙ append_assoc (bs ++ flat_map behind (take i gs)) (58 ∷ []) (hex (slice_index gs i))
     ∙ flat_map_more behind bs (take i gs) (slice_index gs i)
     ∙ ap (λ l. bs ++ flat_map behind l) (sym (take_more gs i 0 h))
 
@@ -41,17 +40,17 @@ unfolding colons
 colons_shortened gs h = ap (λ t. cond t (shortened (first_run (longest gs) gs) (longest gs) gs) (written gs)) (le-leb 2 (longest gs) h)
 
 -- what stands before the run, two colons, what stands behind the run
-pub colons_pieces : (gs b₀ b₁ b₂ b₃ : List ℕ) (place count : ℕ) → length gs ≡ 8 → 2 ≤ count → place ≡ first_run (longest gs) gs → count ≡ longest gs
-    → b₀ ≡ [] → b₁ ≡ b₀ ++ written (take (place - 0) gs) → b₂ ≡ b₁ ++ 58 ∷ 58 ∷ [] → b₃ ≡ b₂ ++ written (take (8 - (place + count)) (drop (place + count) gs))
+pub colons_pieces : (gs b₀ b₁ b₂ b₃ : List ℕ) (start end : ℕ) → length gs ≡ 8 → 2 ≤ end - start → start ≡ first_run (longest gs) gs → end ≡ start + longest gs
+    → b₀ ≡ [] → b₁ ≡ b₀ ++ written (take start gs) → b₂ ≡ b₁ ++ 58 ∷ 58 ∷ [] → b₃ ≡ b₂ ++ written (take (8 - end) (drop end gs))
     → b₃ ≡ colons gs
-colons_pieces gs b₀ b₁ b₂ b₃ place count eight some at is e₀ e₁ e₂ e₃ =
+colons_pieces gs b₀ b₁ b₂ b₃ start end eight some at is e₀ e₁ e₂ e₃ =
     let many : 2 ≤ longest gs = omega arith in
-    let same : place - 0 ≡ place = omega arith in
-    let all = length-drop (place + count) gs in
+    let all = length-drop end gs in
     e₃
     ∙ ap₂ (λ b l. b ++ written l)
-    (e₂ ∙ ap (λ b. b ++ 58 ∷ 58 ∷ []) (e₁ ∙ ap₂ (λ b n. b ++ written (take n gs)) e₀ same))
-    (take_all (8 - (place + count)) (drop (place + count) gs) (omega arith))
-    ∙ append_assoc (written (take place gs)) (58 ∷ 58 ∷ []) (written (drop (place + count) gs))
-    ∙ ap₂ (λ p n. shortened p n gs) at is
+    (e₂ ∙ ap (λ b. b ++ 58 ∷ 58 ∷ []) (e₁ ∙ ap (λ b. b ++ written (take start gs)) e₀))
+    (take_all (8 - end) (drop end gs) (omega arith))
+    ∙ append_assoc (written (take start gs)) (58 ∷ 58 ∷ []) (written (drop end gs))
+    ∙ ap (λ e. written (take start gs) ++ (58 ∷ 58 ∷ written (drop e gs))) is
+    ∙ ap (λ p. shortened p (longest gs) gs) at
     ∙ sym (colons_shortened gs many)

@@ -8,7 +8,7 @@ ghost use Rattle.bits.proofs.Rows.{row_mod};
 ghost use Rattle.text.specs.Dots.{one_number};
 
 use crate::number::read_number;
-use crate::{AddressText, Unreadable};
+use crate::{AddressText, Unreadable, behind};
 use address::ipv4::Ipv4;
 use std::alloc::{AllocError, Global};
 
@@ -29,12 +29,9 @@ fn read_bytes(text: &[u8], dots: u32) -> Result<u32, Unreadable>
     if end == text.len() || text[end] != b'.' {
         return Err(Unreadable { place: end });
     }
-    match read_bytes(&text[end + 1..text.len()], dots - 1) {
-        Ok(rest) => Ok((number << (8 * dots)) + rest),
-        Err(inner) => Err(Unreadable {
-            place: end + 1 + inner.place,
-        }),
-    }
+    let start = end + 1;
+    let rest = behind(start, read_bytes(&text[start..], dots - 1))?;
+    Ok((number << (8 * dots)) + rest)
 }
 
 // The number of four bytes whose dotted text this is.
@@ -58,10 +55,7 @@ impl AddressText for Ipv4 {
         ensures value { MatchResult result (λ a. text.now ≡ dotted a.bits) (λ e. (e.place ≤ length text.now) × ((a : Ipv4) → text.now ≢ dotted a.bits)) }
         ensures stop { IfErr result (λ e. Stuck dotted text.now e.place) }
     {
-        match read_dotted(text) {
-            Ok(bits) => Ok(Ipv4 { bits }),
-            Err(stop) => Err(stop),
-        }
+        Ok(Ipv4::from(read_dotted(text)?))
     }
 
     fn text(&self, heap: Global) -> Result<String, AllocError> {

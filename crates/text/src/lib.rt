@@ -1,7 +1,7 @@
 //! Addresses and prefixes as people type them.
 #![tactic(auto)]
 
-ghost use Rattle.std.specs.Prelude.{◌≡◌, ℕ, ◌≤◌, List, length, IfOk, string_bytes, MatchResult};
+ghost use Rattle.std.specs.Prelude.{◌≡◌, ℕ, ◌+◌, ◌^◌, ◌<◌, ◌≤◌, List, length, IfOk, IfErr, IsErrAnd, string_bytes, MatchResult};
 
 use address::Address;
 use std::alloc::{AllocError, Global};
@@ -17,6 +17,16 @@ pub struct Unreadable {
     pub place: usize,
 }
 
+// What was read behind the first bytes of a text, in the whole text: a refusal stands so many bytes further on.
+fn behind<T>(bytes: usize, read: Result<T, Unreadable>) -> Result<T, Unreadable>
+    requires { IfErr read (λ e. bytes + e.place < 2 ^ 64) }
+    ensures { MatchResult read (λ x. result ≡ Ok x) (λ e. IsErrAnd result (λ d. d.place ≡ bytes + e.place)) }
+{
+    read.map_err(|stop| Unreadable {
+        place: bytes + stop.place,
+    })
+}
+
 /// An address kind that people read and write.
 pub trait AddressText: Address {
     // the text that is written of an address
@@ -29,6 +39,7 @@ pub trait AddressText: Address {
     fn read(text: &[u8]) -> Result<Self, Unreadable>
         ensures { MatchResult result (λ a. reads text.now a) (λ e. (e.place ≤ length text.now) × ((a : Self) → reads text.now a → ⊥)) };
 
+    // No `Display`, which is of another crate as the kinds are: a type around each kind would only call this.
     /// The text of the address.
     fn text(&self, heap: Global) -> Result<String, AllocError>
         ensures { IfOk result (λ s. string_bytes s ≡ spelled self.now) };

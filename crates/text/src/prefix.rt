@@ -3,7 +3,7 @@ ghost use Rattle.text.specs.Slashed.{length_text, Unslashed, LastSlash, SlashRea
 ghost use Rattle.text.specs.Stuck.{Stuck};
 
 use crate::number::read_number;
-use crate::{AddressText, Unreadable};
+use crate::{AddressText, Unreadable, behind};
 use address::prefix::Prefix;
 use std::alloc::{AllocError, Global};
 
@@ -11,14 +11,7 @@ use std::alloc::{AllocError, Global};
 fn last_slash(text: &[u8]) -> Option<usize>
     ensures { MatchOption result (Unslashed text.now) (λ i. LastSlash text.now i) }
 {
-    let mut end = text.len();
-    while end > 0 {
-        if text[end - 1] == b'/' {
-            return Some(end - 1);
-        }
-        end -= 1;
-    }
-    None
+    text.iter().rposition(|byte| *byte == b'/')
 }
 
 // A length from 0 to 999, in decimal without leading zeros.
@@ -43,29 +36,21 @@ pub fn read_prefix<A: AddressText>(text: &[u8]) -> Result<Prefix<A>, Unreadable>
     ensures stop { IfErr result (λ e. SlashStuck A.AddressText.reads text.now e.place) }
 {
     let Some(slash) = last_slash(text) else {
-        return match A::read(text) {
-            Ok(_) => Err(Unreadable { place: text.len() }),
-            Err(stop) => Err(stop),
-        };
+        A::read(text)?;
+        return Err(Unreadable { place: text.len() });
     };
-    let address = match A::read(&text[0..slash]) {
-        Ok(address) => address,
-        Err(stop) => return Err(stop),
-    };
-    match read_length(&text[slash + 1..text.len()]) {
-        Ok(length) => Ok(Prefix { address, length }),
-        Err(stop) => Err(Unreadable {
-            place: slash + 1 + stop.place,
-        }),
-    }
+    let address = A::read(&text[..slash])?;
+    let start = slash + 1;
+    let length = behind(start, read_length(&text[start..]))?;
+    Ok(Prefix { address, length })
 }
 
+// No `Display`, as for an address: a prefix is of another crate, and a type around it would only call this.
 /// The text of the prefix: its address, a slash and its length.
 pub fn prefix_text<A: AddressText>(prefix: &Prefix<A>, heap: Global) -> Result<String, AllocError>
     ensures { IfOk result (λ s. string_bytes s ≡ A.AddressText.spelled prefix.now.address ++ (47 ∷ decimal prefix.now.length)) }
 {
-    let address = prefix.address;
+    let address = prefix.address.text(heap)?;
     let length = prefix.length;
-    let text = address.text(heap)?;
-    format!(in heap; "{text}/{length}")
+    format!(in heap; "{address}/{length}")
 }

@@ -1,8 +1,6 @@
 //! Aggregation and the longest match, on the networks of the example in RFC 4632: provider A has 10.24.0.0/13 and serves the sites C1 to C6
 //! out of it, provider B has 10.32.0.0/13 and serves C7. Seen from a third network, whose hop 1 leads to A and hop 2 to B.
-use crate::calls::{Bytes, Call, Network, open, put, put_all};
-use address::ipv4::Ipv4;
-use reference_nodes::RouteList;
+use crate::calls::{Bytes, Call, Network, Session};
 
 const A: u16 = 1;
 
@@ -58,35 +56,22 @@ const STAGES: [Stage; 4] = [
     ),
 ];
 
-fn look_up_all(
-    rt: &HostRuntime,
-    list: &mut RouteList<Ipv4>,
-    sites: &[(&str, Bytes)],
-) -> anyhow::Result<()> {
-    for (site, bytes) in sites {
-        let answer = put(list, Call::Lookup(*bytes))?;
-        println!(rt; "  {site} at {bytes}: {answer}")?;
-    }
-    Ok(())
-}
-
-fn go_through(
-    rt: &HostRuntime,
-    list: &mut RouteList<Ipv4>,
-    stages: &[Stage],
-) -> anyhow::Result<()> {
-    for Stage(name, changes) in stages {
-        println!(rt; "{name}")?;
-        put_all(rt, list, *changes)?;
-        look_up_all(rt, list, &SITES)?;
+fn look_up_all(session: &mut Session<'_>) -> anyhow::Result<()> {
+    for (site, bytes) in &SITES {
+        let outcome = session.put(Call::Lookup(*bytes))?;
+        println!(session.rt; "  {site} at {bytes}: {outcome}")?;
     }
     Ok(())
 }
 
 pub(crate) fn show(rt: &HostRuntime) -> anyhow::Result<()> {
     println!(rt; "aggregation")?;
-    let mut list: RouteList<Ipv4> = RouteList::new(rt.alloc(), 16);
-    open(rt, &mut list, &[3, 6, 6, 6, 6, 6])?;
-    go_through(rt, &mut list, &STAGES)?;
-    put_all(rt, &mut list, &[Call::Counts])
+    let mut session = Session::new(rt, 16);
+    session.put_all(&[Call::Open(&[3, 6, 6, 6, 6, 6])])?;
+    for Stage(name, changes) in &STAGES {
+        println!(rt; "{name}")?;
+        session.put_all(*changes)?;
+        look_up_all(&mut session)?;
+    }
+    session.put_all(&[Call::Counts])
 }

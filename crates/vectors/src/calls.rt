@@ -1,7 +1,7 @@
 use address::ipv4::Ipv4;
 use address::prefix::Prefix;
 use anyhow::anyhow;
-use faults::Fault;
+use faults::Refusal;
 use reference_nodes::{Counted, Deleted, Failure, Inserted, Matched, Route, RouteList};
 use std::fmt;
 
@@ -13,9 +13,21 @@ pub(crate) struct Bytes(pub(crate) [u8; 4]);
 #[derive(Clone, Copy)]
 pub(crate) struct Network(pub(crate) [u8; 4], pub(crate) u32);
 
-// a call on a list of routes
+// a route, or none
+#[derive(Clone, Copy)]
+pub(crate) struct Found(pub(crate) Option<Route<Ipv4>>);
+
+// a list of routes for IPv4, and where its answers are printed
+#[derive(Drop)]
+pub(crate) struct Session<'a> {
+    pub(crate) rt: &'a HostRuntime,
+    pub(crate) list: RouteList<Ipv4>,
+}
+
+// a call on a list of routes; calls, answers and addresses are written here anew, by bytes, as the examples from outside have them
 #[derive(Clone, Copy)]
 pub(crate) enum Call {
+    Open(&'static [u8]),
     Insert(Network, u16),
     Delete(Network),
     Lookup(Bytes),
@@ -24,39 +36,44 @@ pub(crate) enum Call {
     Counts,
 }
 
-// what was answered
+// what is answered to a call that is not refused
 #[derive(Clone, Copy)]
-pub(crate) enum Answer {
-    Refused(u8),
+enum Answer {
     Opened,
     Inserted(Inserted),
     Deleted(Deleted),
     Matched(Matched<Ipv4>),
-    Following(Option<Route<Ipv4>>),
+    Following(Found),
     Counted(Counted),
 }
 
-impl Bytes {
-    fn of(address: Ipv4) -> Bytes {
-        Bytes(address.bits.to_be_bytes())
-    }
+// what came of a call: its answer or its refusal
+#[derive(Clone, Copy)]
+pub(crate) struct Outcome(Result<Answer, Refusal>);
 
-    fn address(self) -> Ipv4 {
-        Ipv4 {
-            bits: u32::from_be_bytes(self.0),
-        }
+impl From<Ipv4> for Bytes {
+    fn from(address: Ipv4) -> Bytes {
+        Bytes(u32::from(address).to_be_bytes())
     }
 }
 
-impl Network {
-    pub(crate) fn of(prefix: Prefix<Ipv4>) -> Network {
-        Network(Bytes::of(prefix.address).0, prefix.length)
+impl From<Prefix<Ipv4>> for Network {
+    fn from(prefix: Prefix<Ipv4>) -> Network {
+        Network(Bytes::from(prefix.address).0, prefix.length)
     }
+}
 
-    pub(crate) fn prefix(self) -> Prefix<Ipv4> {
+impl From<Bytes> for Ipv4 {
+    fn from(bytes: Bytes) -> Ipv4 {
+        Ipv4::from(u32::from_be_bytes(bytes.0))
+    }
+}
+
+impl From<Network> for Prefix<Ipv4> {
+    fn from(network: Network) -> Prefix<Ipv4> {
         Prefix {
-            address: Bytes(self.0).address(),
-            length: self.1,
+            address: Ipv4::from(Bytes(network.0)),
+            length: network.1,
         }
     }
 }
@@ -76,9 +93,22 @@ impl fmt::Display for Network {
     }
 }
 
+impl fmt::Display for Found {
+    fn fmt<W: fmt::Write>(&self, f: &mut fmt::Formatter<W>) -> fmt::Result {
+        match self.0 {
+            Some(Route { prefix, hop }) => {
+                let network = Network::from(prefix);
+                write!(f, "{network} by hop {hop}")
+            }
+            None => write!(f, "none"),
+        }
+    }
+}
+
 impl fmt::Display for Call {
     fn fmt<W: fmt::Write>(&self, f: &mut fmt::Formatter<W>) -> fmt::Result {
         match *self {
+            Call::Open(strides) => write!(f, "open with {strides:?}"),
             Call::Insert(network, hop) => write!(f, "insert {network} by hop {hop}"),
             Call::Delete(network) => write!(f, "delete {network}"),
             Call::Lookup(bytes) => write!(f, "lookup {bytes}"),
@@ -89,42 +119,27 @@ impl fmt::Display for Call {
     }
 }
 
-fn show_route<W: fmt::Write>(route: Option<Route<Ipv4>>, f: &mut fmt::Formatter<W>) -> fmt::Result {
-    match route {
-        Some(route) => {
-            let network = Network::of(route.prefix);
-            let hop = route.hop;
-            write!(f, "{network} by hop {hop}")
-        }
-        None => write!(f, "none"),
-    }
-}
-
-fn show_inserted<W: fmt::Write>(inserted: Inserted, f: &mut fmt::Formatter<W>) -> fmt::Result {
-    let taken = inserted.taken;
-    match inserted.old {
-        Some(hop) => write!(f, "hop {hop} replaced, nodes taken: {taken}"),
-        None => write!(f, "new, nodes taken: {taken}"),
-    }
-}
-
-fn show_matched<W: fmt::Write>(matched: Matched<Ipv4>, f: &mut fmt::Formatter<W>) -> fmt::Result {
-    let path = matched.path;
-    show_route(matched.route, f)?;
-    write!(f, ", nodes on the path: {path}")
-}
-
 impl fmt::Display for Answer {
     fn fmt<W: fmt::Write>(&self, f: &mut fmt::Formatter<W>) -> fmt::Result {
         match *self {
-            Answer::Refused(number) => write!(f, "refused {number}"),
             Answer::Opened => write!(f, "opened"),
-            Answer::Inserted(inserted) => show_inserted(inserted, f),
+            Answer::Inserted(
+                Inserted {
+                    old: Some(hop),
+                    taken,
+                },
+            ) => { write!(f, "hop {hop} replaced, nodes taken: {taken}") }
+            Answer::Inserted(Inserted { old: None, taken }) => {
+                write!(f, "new, nodes taken: {taken}")
+            }
             Answer::Deleted(Deleted { hop, returned }) => {
                 write!(f, "hop {hop}, nodes returned: {returned}")
             }
-            Answer::Matched(matched) => show_matched(matched, f),
-            Answer::Following(route) => show_route(route, f),
+            Answer::Matched(Matched { route, path }) => {
+                let found = Found(route);
+                write!(f, "{found}, nodes on the path: {path}")
+            }
+            Answer::Following(found) => write!(f, "{found}"),
             Answer::Counted(
                 Counted {
                     routes,
@@ -141,88 +156,57 @@ impl fmt::Display for Answer {
     }
 }
 
-fn refused(fault: Fault) -> Answer {
-    Answer::Refused(fault.refusal.number())
-}
-
-// A call that finds no memory ends the program.
-fn failed(failure: Failure) -> anyhow::Result<Answer> {
-    match failure {
-        Failure::Refused(fault) => Ok(refused(fault)),
-        Failure::NoMemory => Err(anyhow!("no memory")),
+impl fmt::Display for Outcome {
+    fn fmt<W: fmt::Write>(&self, f: &mut fmt::Formatter<W>) -> fmt::Result {
+        match self.0 {
+            Ok(answer) => write!(f, "{answer}"),
+            Err(refusal) => {
+                let number = refusal.number();
+                write!(f, "refused {number}")
+            }
+        }
     }
 }
 
-fn following(answer: Result<Option<Route<Ipv4>>, Fault>) -> Answer {
-    match answer {
-        Ok(route) => Answer::Following(route),
-        Err(fault) => refused(fault),
+impl<'a> Session<'a> {
+    pub(crate) fn new(rt: &'a HostRuntime, nodes: usize) -> Session<'a> {
+        Session {
+            rt,
+            list: RouteList::new(rt.alloc(), nodes),
+        }
     }
-}
 
-fn insert(list: &mut RouteList<Ipv4>, network: Network, hop: u16) -> anyhow::Result<Answer> {
-    match list.insert(network.prefix(), hop) {
-        Ok(inserted) => Ok(Answer::Inserted(inserted)),
-        Err(failure) => failed(failure),
+    fn answer(&mut self, call: Call) -> Result<Answer, Failure> {
+        let list = &mut self.list;
+        Ok(match call {
+            Call::Open(strides) => {
+                list.open(strides)?;
+                Answer::Opened
+            }
+            Call::Insert(network, hop) => Answer::Inserted(list.insert(network.into(), hop)?),
+            Call::Delete(network) => Answer::Deleted(list.delete(network.into())?),
+            Call::Lookup(bytes) => Answer::Matched(list.lookup(bytes.into())?),
+            Call::First => Answer::Following(Found(list.first()?)),
+            Call::Next(network) => Answer::Following(Found(list.next(network.into())?)),
+            Call::Counts => Answer::Counted(list.counts()?),
+        })
     }
-}
 
-fn delete(list: &mut RouteList<Ipv4>, network: Network) -> Answer {
-    match list.delete(network.prefix()) {
-        Ok(deleted) => Answer::Deleted(deleted),
-        Err(fault) => refused(fault),
+    // Puts a call to the list; one that finds no memory ends the program.
+    pub(crate) fn put(&mut self, call: Call) -> anyhow::Result<Outcome> {
+        match self.answer(call) {
+            Ok(answer) => Ok(Outcome(Ok(answer))),
+            Err(Failure::Refused(fault)) => Ok(Outcome(Err(fault.refusal))),
+            Err(Failure::NoMemory) => Err(anyhow!("no memory")),
+        }
     }
-}
 
-fn lookup(list: &RouteList<Ipv4>, bytes: Bytes) -> Answer {
-    match list.lookup(bytes.address()) {
-        Ok(matched) => Answer::Matched(matched),
-        Err(fault) => refused(fault),
+    // Puts each call to the list, and prints it with its outcome.
+    pub(crate) fn put_all(&mut self, calls: &[Call]) -> anyhow::Result<()> {
+        for call in calls {
+            let outcome = self.put(*call)?;
+            println!(self.rt; "  {call}: {outcome}")?;
+        }
+        Ok(())
     }
-}
-
-fn counts(list: &RouteList<Ipv4>) -> Answer {
-    match list.counts() {
-        Ok(counted) => Answer::Counted(counted),
-        Err(fault) => refused(fault),
-    }
-}
-
-// What a list answers to a call.
-pub(crate) fn put(list: &mut RouteList<Ipv4>, call: Call) -> anyhow::Result<Answer> {
-    match call {
-        Call::Insert(network, hop) => insert(list, network, hop),
-        Call::Delete(network) => Ok(delete(list, network)),
-        Call::Lookup(bytes) => Ok(lookup(list, bytes)),
-        Call::First => Ok(following(list.first())),
-        Call::Next(network) => Ok(following(list.next(network.prefix()))),
-        Call::Counts => Ok(counts(list)),
-    }
-}
-
-// Puts each call to a list, and prints it with its answer.
-pub(crate) fn put_all(
-    rt: &HostRuntime,
-    list: &mut RouteList<Ipv4>,
-    calls: &[Call],
-) -> anyhow::Result<()> {
-    for call in calls {
-        let answer = put(list, *call)?;
-        println!(rt; "  {call}: {answer}")?;
-    }
-    Ok(())
-}
-
-// Opens a list with some strides, and prints what it answers.
-pub(crate) fn open(
-    rt: &HostRuntime,
-    list: &mut RouteList<Ipv4>,
-    strides: &[u8],
-) -> anyhow::Result<()> {
-    let answer = match list.open(strides) {
-        Ok(()) => Answer::Opened,
-        Err(failure) => failed(failure)?,
-    };
-    println!(rt; "  open with {strides:?}: {answer}")?;
-    Ok(())
 }

@@ -1,7 +1,5 @@
 //! The worked figures of the calls, IPv4 with the plan 3,6,6,6,6,6.
-use crate::calls::{Bytes, Call, Network, open, put_all};
-use address::ipv4::Ipv4;
-use reference_nodes::RouteList;
+use crate::calls::{Bytes, Call, Network, Session};
 
 // strides that are no plan for 32 bits: they sum to 32, there is a 0, there is a 7, there are none
 const NO_PLANS: [&[u8]; 4] = [
@@ -83,31 +81,30 @@ const AFTER_OPENING: [Call; 3] = [
 
 // Opens with each of some strides, and puts the same calls to the list then.
 fn open_with_each(
-    rt: &HostRuntime,
-    list: &mut RouteList<Ipv4>,
-    plans: &[&[u8]],
+    session: &mut Session<'_>,
+    plans: &[&'static [u8]],
     calls: &[Call],
 ) -> anyhow::Result<()> {
     for strides in plans {
-        open(rt, list, *strides)?;
-        put_all(rt, list, calls)?;
+        session.put_all(&[Call::Open(*strides)])?;
+        session.put_all(calls)?;
     }
     Ok(())
 }
 
 fn plans(rt: &HostRuntime) -> anyhow::Result<()> {
     println!(rt; "plans")?;
-    let mut list: RouteList<Ipv4> = RouteList::new(rt.alloc(), 5);
-    open_with_each(rt, &mut list, &NO_PLANS, &WHILE_SHUT)?;
-    open_with_each(rt, &mut list, &PLANS, &AFTER_OPENING)?;
-    open_with_each(rt, &mut list, &NO_PLANS, &[Call::Counts])
+    let mut session = Session::new(rt, 5);
+    open_with_each(&mut session, &NO_PLANS, &WHILE_SHUT)?;
+    open_with_each(&mut session, &PLANS, &AFTER_OPENING)?;
+    open_with_each(&mut session, &NO_PLANS, &[Call::Counts])
 }
 
 fn with_nodes(rt: &HostRuntime, nodes: usize, calls: &[Call]) -> anyhow::Result<()> {
     println!(rt; "{nodes} nodes")?;
-    let mut list: RouteList<Ipv4> = RouteList::new(rt.alloc(), nodes);
-    open(rt, &mut list, &[3, 6, 6, 6, 6, 6])?;
-    put_all(rt, &mut list, calls)
+    let mut session = Session::new(rt, nodes);
+    session.put_all(&[Call::Open(&[3, 6, 6, 6, 6, 6])])?;
+    session.put_all(calls)
 }
 
 pub(crate) fn show(rt: &HostRuntime) -> anyhow::Result<()> {

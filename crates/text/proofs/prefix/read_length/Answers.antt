@@ -1,6 +1,6 @@
 use Rattle.std.proofs.Common.{◌%◌, arith}
 use Rattle.text.specs.Slashed.{length_text}
-use Rattle.text.specs.Longest.{no_number, first_digit, rem_le, alone, behind}
+use Rattle.text.specs.Longest.{no_number, first_digit, rem_le, behind}
 use Rattle.text.proofs.prefix.read_length.Goals as goal
 
 pub returns-in_default : goal.returns-in_default
@@ -9,8 +9,3 @@ returns-in_default c =
 
 pub returns-then-end-text : goal.returns-then-end-text
 returns-then-end-text c = behind c.in-Some.ensures (omega arith) c.if-end-text.true
-
-pub returns : goal.returns
-returns c =
-    let l = c.in-Some.ensures in
-    (alone l c.if-end-text.false, omega (arith, l.small))

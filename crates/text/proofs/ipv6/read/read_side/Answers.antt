@@ -1,46 +1,55 @@
-use Rattle.std.proofs.Common.{length, arith, true-eqb, false-eqb}
-use Rattle.text.proofs.Sides.{gone_none, side_empty, number_low, side_over, side_strange, side_done, side_more}
+use Rattle.std.proofs.Common.{rules, tests, length, arith, true-eqb, false-eqb}
+use Rattle.std.proofs.lemmas.List.{length_push}
+use Rattle.std.proofs.lemmas.Result.{err_from_is_err_and, MatchResult-weaker}
+use Rattle.text.proofs.Sides.{next_word, last_word, gone_none, side_empty, side_over, side_strange, side_more, side_done, word_within}
+use Rattle.text.proofs.Further.{behind_ok, behind_err}
 use Rattle.text.proofs.ipv6.read.read_side.Goals as goal
 
 pub returns-then-is_empty : goal.returns-then-is_empty
-returns-then-is_empty c = side_empty c.args.text.now c.args.most (true-eqb (length c.args.text.now) 0 c.if-is_empty.ensures)
+returns-then-is_empty c = (side_empty c.args.text.now (true-eqb (length c.args.text.now) 0 c.if-is_empty.ensures), omega arith)
 
-pub loop-count-init : goal.loop-count-init
-loop-count-init c = gone_none c.args.text.now c.args.most
+pub loop-word-init : goal.loop-word-init
+loop-word-init c = gone_none c.args.text.now c.args.most (omega (arith, false-eqb (length c.args.text.now) 0 c.if-is_empty.ensures))
 
-pub returns-then-count-most : goal.returns-then-count-most
-returns-then-count-most c =
-    side_over c.args.text.now c.loop-count.rest.now c.args.most c.loop-count.count c.loop-count.number
-    (omega (arith, false-eqb (length c.args.text.now) 0 c.if-is_empty.ensures)) c.loop-count.invariant c.if-count-most.true
+pub returns-then-groups-most : goal.returns-then-groups-most
+returns-then-groups-most c =
+    let t = next_word c.args.text.now c.into_iter-word-iterator.ensures.into_iter_gives c.split-word-items.ensures.rest c.split-word-items.ensures.done c.split-word-items.ensures.closure
+    c.loop-word.yielded _ _ c.loop-word.yielded_by _ c.next.ensures.steps (λ x b q k. search (rules, tests)) c.in-Some.word c.in-Some.is in
+    (omega (arith, word_within c.loop-word.invariant c.in-Some.word.now t), side_over c.loop-word.invariant c.in-Some.word.now t c.if-groups-most.true)
 
-pub overflow_mul-number : goal.overflow_mul-number
-overflow_mul-number c = omega (arith, number_low c.loop-count.count c.loop-count.number (omega (arith, c.loop-count.invariant.few)) c.loop-count.invariant.small)
+pub behind-requires : goal.behind-requires
+behind-requires c =
+    let t = next_word c.args.text.now c.into_iter-word-iterator.ensures.into_iter_gives c.split-word-items.ensures.rest c.split-word-items.ensures.done c.split-word-items.ensures.closure
+    c.loop-word.yielded _ _ c.loop-word.yielded_by _ c.next.ensures.steps (λ x b q k. search (rules, tests)) c.in-Some.word c.in-Some.is in
+    let h = word_within c.loop-word.invariant c.in-Some.word.now t in
+    MatchResult-weaker c.read_word.result c.read_word.ensures (λ x p. tt) (λ e q. omega (arith, q.0))
 
-pub overflow_add-number : goal.overflow_add-number
-overflow_add-number c = omega (arith, number_low c.loop-count.count c.loop-count.number (omega (arith, c.loop-count.invariant.few)) c.loop-count.invariant.small)
+pub returns-in_err-behind : goal.returns-in_err-behind
+returns-in_err-behind c =
+    let t = next_word c.args.text.now c.into_iter-word-iterator.ensures.into_iter_gives c.split-word-items.ensures.rest c.split-word-items.ensures.done c.split-word-items.ensures.closure
+    c.loop-word.yielded _ _ c.loop-word.yielded_by _ c.next.ensures.steps (λ x b q k. search (rules, tests)) c.in-Some.word c.in-Some.is in
+    let h = word_within c.loop-word.invariant c.in-Some.word.now t in
+    let p = err_from_is_err_and c.from_residual.result c.from_residual.ensures.1 in
+    let q = behind_err c.loop-word.place _ _ c.read_word.result c.in_err-behind.field-0.0 c.read_word.ensures c.in_err-behind.ensures in
+    rw (p.1, p.2) (omega (arith, q.1.0, q.2), side_strange c.loop-word.invariant c.in-Some.word.now t q.1.1)
 
-pub returns-in-Err : goal.returns-in-Err
-returns-in-Err c =
-    let w = c.word_length-n.ensures in
-    side_strange c.args.text.now c.loop-count.rest.now c.args.most c.loop-count.count c.loop-count.number
-    (omega (arith, false-eqb (length c.args.text.now) 0 c.if-is_empty.ensures)) c.loop-count.invariant
-    c.word_length-n.result w.within w.before w.found
-    c.in-Err.stopped c.in-Err.ensures
+pub overflow_add-place-in-loop-word : goal.overflow_add-place-in-loop-word
+overflow_add-place-in-loop-word c =
+    let t = next_word c.args.text.now c.into_iter-word-iterator.ensures.into_iter_gives c.split-word-items.ensures.rest c.split-word-items.ensures.done c.split-word-items.ensures.closure
+    c.loop-word.yielded _ _ c.loop-word.yielded_by _ c.next.ensures.steps (λ x b q k. search (rules, tests)) c.in-Some.word c.in-Some.is in
+    omega (arith, word_within c.loop-word.invariant c.in-Some.word.now t)
 
-pub returns-then-n-rest : goal.returns-then-n-rest
-returns-then-n-rest c =
-    let w = c.word_length-n.ensures in
-    side_done c.args.text.now c.loop-count.rest.now c.args.most c.loop-count.count c.loop-count.number
-    (omega (arith, false-eqb (length c.args.text.now) 0 c.if-is_empty.ensures)) c.loop-count.invariant
-    c.word_length-n.result w.within w.before w.found
-    c.in-Ok.group (omega arith) c.in-Ok.ensures (omega (arith, c.loop-count.invariant.few))
-    c.if-n-rest.true
+pub loop-word-preserved : goal.loop-word-preserved
+loop-word-preserved c =
+    let t = next_word c.args.text.now c.into_iter-word-iterator.ensures.into_iter_gives c.split-word-items.ensures.rest c.split-word-items.ensures.done c.split-word-items.ensures.closure
+    c.loop-word.yielded _ _ c.loop-word.yielded_by _ c.next.ensures.steps (λ x b q k. search (rules, tests)) c.in-Some.word c.in-Some.is in
+    let g = c.in_ok-behind.field-0 in
+    let is = behind_ok c.loop-word.place _ _ c.read_word.result g c.read_word.ensures c.in_ok-behind.ensures in
+    rw (c.with-groups.ensures.number, c.with-groups.ensures.count, length_push)
+    (side_more c.loop-word.invariant c.in-Some.word.now t g (omega arith) is (omega (arith, c.loop-word.invariant.few)))
 
-pub loop-count-preserved : goal.loop-count-preserved
-loop-count-preserved c =
-    let w = c.word_length-n.ensures in
-    side_more c.args.text.now c.loop-count.rest.now c.args.most c.loop-count.count c.loop-count.number
-    (omega (arith, false-eqb (length c.args.text.now) 0 c.if-is_empty.ensures)) c.loop-count.invariant
-    c.word_length-n.result w.within w.before w.found
-    c.in-Ok.group (omega arith) c.in-Ok.ensures (omega (arith, c.loop-count.invariant.few))
-    (omega arith)
+pub returns : goal.returns
+returns c =
+    let all = last_word c.args.text.now c.into_iter-word-iterator.ensures.into_iter_gives c.split-word-items.ensures.rest c.split-word-items.ensures.done c.split-word-items.ensures.closure
+    c.loop-word.yielded _ _ c.loop-word.yielded_by _ c.next.ensures.steps (λ x b q k. search (rules, tests)) c.in-None.is in
+    (side_done c.loop-word.invariant all, c.loop-word.invariant.few)

@@ -2,8 +2,5 @@ use Rattle.std.proofs.Common.{length}
 use Rattle.text.proofs.Sides.{Gone}
 use Rattle.text.proofs.ipv6.read.read_side.Given as goal
 
-abbrev pub invariant-loop-count : goal.invariant-loop-count
-invariant-loop-count l = Gone l.text l.rest l.most l.count l.number
-
-abbrev pub decreases-loop-count : goal.decreases-loop-count
-decreases-loop-count l = length l.rest
+abbrev pub invariant-loop-word : goal.invariant-loop-word
+invariant-loop-word l = let number = l.groups.0 in let count = l.groups.1.0 in Gone l.text l.most count number (length l.yielded) l.place

@@ -1,10 +1,10 @@
-use Rattle.std.proofs.Common.{◌/◌, ◌%◌, ◌^◌, [], ◌∷◌, sym, ap, ◌∙◌, div-one}
+use Rattle.std.proofs.Common.{rules, tests, ◌-◌, ◌*◌, ◌/◌, ◌%◌, ◌^◌, ap, ◌∙◌}
 use Rattle.text.specs.Colons.{groups, low_groups}
+use Rattle.text.proofs.FromFn.{from_fn_is}
 use Rattle.text.proofs.ipv6.write.groups_of.Goals as goal
 
 pub returns : goal.returns
 unfolding groups low_groups
 returns c =
-    let v = c.number-v.result in
-    ap (λ x. v / 2 ^ 112 % 2 ^ 16 ∷ v / 2 ^ 96 % 2 ^ 16 ∷ v / 2 ^ 80 % 2 ^ 16 ∷ v / 2 ^ 64 % 2 ^ 16 ∷ v / 2 ^ 48 % 2 ^ 16 ∷ v / 2 ^ 32 % 2 ^ 16 ∷ v / 2 ^ 16 % 2 ^ 16 ∷ x % 2 ^ 16 ∷ []) (sym (div-one v))
-    ∙ ap (λ n. low_groups 8 n) c.number-v.ensures
+    from_fn_is _ (λ i. c.from-number.result / 2 ^ (16 * (7 - i)) % 65536) _ (λ i y q k. search (rules, tests)) c.from_fn.result 8 c.from_fn.ensures.items
+    ∙ ap (low_groups 8) c.from-number.ensures

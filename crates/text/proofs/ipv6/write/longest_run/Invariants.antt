@@ -1,8 +1,8 @@
+use Rattle.std.proofs.Common.{◌-◌, ◌≤◌, length}
 use Rattle.text.specs.Runs.{Seen}
 use Rattle.text.proofs.ipv6.write.longest_run.Given as goal
 
-abbrev pub invariant-loop-i : goal.invariant-loop-i
-invariant-loop-i l = Seen l.all l.i l.count l.best.place l.best.count
-
-abbrev pub decreases-loop-i : goal.decreases-loop-i
-decreases-loop-i l = l.i
+abbrev pub invariant-loop-start : goal.invariant-loop-start
+invariant-loop-start l =
+    (l.start ≤ l.end) × (l.end ≤ length l.all) × (l.best.start ≤ l.best.end)
+    × Seen l.all l.start (l.end - l.start) l.best.start (l.best.end - l.best.start)

@@ -1,3 +1,0 @@
-mod Strides
-mod Finds
-mod Edits

@@ -1,0 +1,3 @@
+mod Strides
+mod Finds
+mod Longest

@@ -1,0 +1,47 @@
+use Rattle.std.proofs.Common.{◌≡◌, map, sym, ap, ◌∙◌, subst}
+use Rattle.model.specs.Routes.{Routes, Ascending, find, without}
+use Rattle.laws.proofs.Routes.{without_ascends}
+use Rattle.routes.specs.Found.{Hit}
+use Rattle.routes.specs.Kept.{Kept}
+use Rattle.routes.specs.Meant.{meant, prefix_bits}
+use Rattle.routes.proofs.Finds.{hop_at, removed, absent_stays}
+use Rattle.routes.proofs.set.RouteSet.remove.Goals as goal
+
+pub invariant_of-self : goal.invariant_of-self
+invariant_of-self g c =
+    let bits = g.A.Address.bits in
+    let xs = c.self.inside.routes.items in
+    let p = prefix_bits bits c.args.prefix.prefix in
+    let shows : map (meant bits) xs ≡ c.args.self.now.routes = ap (λ (k : Kept). k.routes) c.self.view_is in
+    let hit = subst (λ (rs : Routes). Hit rs p c.in-Ok.i) (sym shows) c.in-Ok.ensures in
+    subst Ascending (sym (ap (map (meant bits)) c.remove.ensures.items ∙ removed bits xs p c.in-Ok.i hit)) (without_ascends (map (meant bits) xs) p c.self.invariant)
+
+pub returns-in-Ok-clause-answer : goal.returns-in-Ok-clause-answer
+returns-in-Ok-clause-answer g c =
+    let bits = g.A.Address.bits in
+    let xs = c.self.inside.routes.items in
+    let p = prefix_bits bits c.args.prefix.prefix in
+    let shows : map (meant bits) xs ≡ c.args.self.now.routes = ap (λ (k : Kept). k.routes) c.self.view_is in
+    let hit = subst (λ (rs : Routes). Hit rs p c.in-Ok.i) (sym shows) c.in-Ok.ensures in
+    hop_at bits xs p c.in-Ok.i hit c.remove.result c.remove.ensures.value ∙ ap (λ (rs : Routes). find rs p) shows
+
+pub returns-in-Ok-clause-after : goal.returns-in-Ok-clause-after
+returns-in-Ok-clause-after g c =
+    let bits = g.A.Address.bits in
+    let xs = c.self.inside.routes.items in
+    let p = prefix_bits bits c.args.prefix.prefix in
+    let shows : map (meant bits) xs ≡ c.args.self.now.routes = ap (λ (k : Kept). k.routes) c.self.view_is in
+    let hit = subst (λ (rs : Routes). Hit rs p c.in-Ok.i) (sym shows) c.in-Ok.ensures in
+    ap (map (meant bits)) c.remove.ensures.items ∙ removed bits xs p c.in-Ok.i hit ∙ ap (λ (rs : Routes). without rs p) shows
+
+pub returns-in-Err-clause-after : goal.returns-in-Err-clause-after
+returns-in-Err-clause-after g c = sym (absent_stays c.args.self.now.routes (prefix_bits g.A.Address.bits c.args.prefix.prefix) c.in-Err.ensures.finds)
+
+pub returns-in-Ok-clause-ascends : goal.returns-in-Ok-clause-ascends
+returns-in-Ok-clause-ascends g c =
+    let bits = g.A.Address.bits in
+    let xs = c.self.inside.routes.items in
+    let p = prefix_bits bits c.args.prefix.prefix in
+    let shows : map (meant bits) xs ≡ c.args.self.now.routes = ap (λ (k : Kept). k.routes) c.self.view_is in
+    let hit = subst (λ (rs : Routes). Hit rs p c.in-Ok.i) (sym shows) c.in-Ok.ensures in
+    subst Ascending (sym (ap (map (meant bits)) c.remove.ensures.items ∙ removed bits xs p c.in-Ok.i hit)) (without_ascends (map (meant bits) xs) p c.self.invariant)

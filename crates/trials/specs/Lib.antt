@@ -1,0 +1,3 @@
+pub mod Dice
+pub mod Lines
+pub mod Tally
