@@ -1,4 +1,4 @@
-use crate::answers::{Deleted, Inserted};
+use crate::answers::{Counted, Counts, Deleted, Inserted, Matched};
 use address::prefix::Prefix;
 use commands::engine::{Engine, Entry};
 use commands::reply::Found;
@@ -13,14 +13,14 @@ use text::AddressText;
 pub(crate) struct Table<A: AddressText>(RouteList<A>);
 
 impl<A: AddressText> Engine for Table<A> {
-    ghost use Rattle.std.specs.Prelude.{◌≡◌, Option, [], None, Ok};
+    ghost use Rattle.std.specs.Prelude.{◌≡◌, ◌≢◌, Option, MatchOption, codes};
     ghost use Rattle.std.specs.Option.{option_map};
     ghost use Rattle.model.specs.Outcomes.{outcome, granted};
     ghost use Rattle.commands.specs.declared.engine.Entry.{Entry};
     ghost use Rattle.commands.specs.Looked.{Looks, TellsRoute, entry_meant};
-    ghost use Rattle.model.specs.Calls.{open_with, insert, delete, lookup, exact, first, next, after, hop_is, route_is, matched};
+    ghost use Rattle.model.specs.Calls.{open_with, insert, delete, lookup, exact, first, next, counts, after, hop_is, route_is, matched};
     ghost use Rattle.routes.specs.Answered.{leaves};
-    ghost use Rattle.reference.specs.Shown.{shown, answer_of, left_of};
+    ghost use Rattle.reference.specs.Shown.{shown, answer_of, left_of, count_answer};
 
     type Address = A;
 
@@ -28,18 +28,17 @@ impl<A: AddressText> Engine for Table<A> {
 
     type Deleted = Deleted;
 
-    type Matched = Found;
+    type Matched = Matched;
 
-    // No command of its own. (An empty type says it better, but the gate refuses functions that no call can reach.)
-    type Own = ();
+    type Own = Counts;
 
-    type Told = Found;
+    type Told = Counted;
 
     const HELP: &'static str =
-        "commands: kind ipv4|ipv6; open NODES STRIDE,STRIDE,..; insert PREFIX HOP; delete PREFIX; lookup ADDRESS; exact PREFIX; first; next PREFIX; list; help; # REMARK";
+        "commands: kind ipv4|ipv6; open NODES STRIDE,STRIDE,..; insert PREFIX HOP; delete PREFIX; lookup ADDRESS; exact PREFIX; first; next PREFIX; counts; list; help; # REMARK";
 
     const COMMANDS: &'static str =
-        "kind, open, insert, delete, lookup, exact, first, next, list or help";
+        "kind, open, insert, delete, lookup, exact, first, next, counts, list or help";
 
     ghost shown = { λ t. shown t.0 };
 
@@ -49,7 +48,7 @@ impl<A: AddressText> Engine for Table<A> {
 
     ghost deleted = { λ t p. left_of A.Address.WIDTH t.0 (delete (A.Address.bits p.address) p.length) };
 
-    ghost looked_up = { λ t a r. Looks (λ found o. (e : Option (Entry A)) × TellsRoute A.AddressText.spelled found e × (granted (matched (option_map (entry_meant A.Address.bits) e)) ≡ o)) r (answer_of A.Address.WIDTH t.0 (lookup (A.Address.bits a))) };
+    ghost looked_up = { λ t a r. Looks (λ m o. (e : Option (Entry A)) × TellsRoute A.AddressText.spelled m.found e × (granted (matched (option_map (entry_meant A.Address.bits) e) m.path) ≡ o)) r (answer_of A.Address.WIDTH t.0 (lookup (A.Address.bits a))) };
 
     ghost exact_is = { λ t p r. outcome hop_is r ≡ answer_of A.Address.WIDTH t.0 (exact (A.Address.bits p.address) p.length) };
 
@@ -57,11 +56,11 @@ impl<A: AddressText> Engine for Table<A> {
 
     ghost next_is = { λ t p r. outcome (λ o. route_is (option_map (entry_meant A.Address.bits) o)) r ≡ answer_of A.Address.WIDTH t.0 (next (A.Address.bits p.address) p.length) };
 
-    ghost own_read = { λ _ read. read ≡ None };
+    ghost own_read = { λ w read. MatchOption read (w ≢ codes "counts") (λ _. w ≡ codes "counts") };
 
-    ghost word_is = { λ _. [] };
+    ghost word_is = { λ _. codes "counts" };
 
-    ghost own_is = { λ _ _ r. r ≡ Ok (record { 0 = None }) };
+    ghost own_is = { λ t _ r. outcome (λ c. count_answer c.0) r ≡ answer_of A.Address.WIDTH t.0 counts };
 
     fn new(heap: Global) -> Table<A> {
         Table(RouteList::new(heap, 0))
@@ -77,19 +76,23 @@ impl<A: AddressText> Engine for Table<A> {
     fn insert(&mut self, prefix: Prefix<A>, hop: u16) -> Result<Inserted, Failure>
         ensures { shown self.new.0 ≡ leaves result (shown self.old.0) (left_of A.Address.WIDTH self.old.0 (insert (A.Address.bits prefix.address) prefix.length hop)) }
     {
-        let old = self.0.insert(prefix, hop)?;
-        Ok(Inserted { hop, old })
+        let answer = self.0.insert(prefix, hop)?;
+        Ok(Inserted { hop, answer })
     }
 
     fn delete(&mut self, prefix: Prefix<A>) -> Result<Deleted, Fault>
         ensures { shown self.new.0 ≡ left_of A.Address.WIDTH self.old.0 (delete (A.Address.bits prefix.address) prefix.length) }
     {
-        let hop = self.0.delete(prefix)?;
-        Ok(Deleted { hop })
+        let answer = self.0.delete(prefix)?;
+        Ok(Deleted(answer))
     }
 
-    fn lookup(&self, heap: Global, address: A) -> Result<Found, Failure> {
-        Ok(Found::new(heap, self.0.lookup(address)?.map(Entry::from))?)
+    fn lookup(&self, heap: Global, address: A) -> Result<Matched, Failure> {
+        let answer = self.0.lookup(address)?;
+        Ok(Matched {
+            found: Found::new(heap, answer.route.map(Entry::from))?,
+            path: answer.path,
+        })
     }
 
     fn exact(&self, prefix: Prefix<A>) -> Result<Option<u16>, Fault>
@@ -108,15 +111,18 @@ impl<A: AddressText> Engine for Table<A> {
         Ok(self.0.next(prefix)?.map(Entry::from))
     }
 
-    fn own_command(_word: &[u8]) -> Option<()> {
-        None
+    fn own_command(word: &[u8]) -> Option<Counts> {
+        match word {
+            b"counts" => Some(Counts),
+            _ => None,
+        }
     }
 
-    fn own_word(_command: &()) -> &'static str {
-        ""
+    fn own_word(_command: &Counts) -> &'static str {
+        "counts"
     }
 
-    fn own(&self, _command: ()) -> Result<Found, Fault> {
-        Ok(Found(None))
+    fn own(&self, _command: Counts) -> Result<Counted, Fault> {
+        Ok(Counted(self.0.counts()?))
     }
 }

@@ -6,8 +6,7 @@ use Rattle.bits.specs.Rows.{Bits}
 use Rattle.bits.specs.Order.{same}
 use Rattle.model.specs.Blocks.{Update, Followed, tallied, follow, read_withdrawn, read_announced, block, read_block}
 use Rattle.model.specs.Bytes.{Bytes, big_endian, byte_count}
-use Rattle.model.specs.Calls.{Plain, shut, holding}
-use Rattle.model.specs.TenCalls.{Call, insert, delete, Done, perform, left_by, after, load_sheet, removed}
+use Rattle.model.specs.Calls.{Plain, shut, holding, Call, insert, delete, Done, perform, left_by, after, load_sheet, removed}
 use Rattle.model.specs.Follow.{width, nodes, strides, limit, Message, framed, from_start, final_sheet, follow_blocks, follow_bytes, follow_input, told}
 use Rattle.model.specs.Links.{Joined, join, follow_block}
 use Rattle.model.specs.Outcomes.{Outcome, granted, refused, and_then}

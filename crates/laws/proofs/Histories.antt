@@ -8,8 +8,7 @@ use Rattle.laws.proofs.Required.{fewer, none_required}
 use Rattle.laws.proofs.Routes.{find_without, find_without_other, put_ascends, without_ascends}
 use Rattle.laws.proofs.Written.{sheet_was_loaded, sheet_was_read}
 use Rattle.model.specs.Bytes.{Bytes}
-use Rattle.model.specs.Calls.{Plain, shut, holding}
-use Rattle.model.specs.TenCalls.{Call, open_with, insert, delete, lookup, exact, first, next, counts, write, load, Done, done, hop_is, route_is, after, after_all, do_call, do_insert, do_load, do_open, do_write, left_by, load_sheet, removed, with_prefix}
+use Rattle.model.specs.Calls.{Plain, shut, holding, Call, open_with, insert, delete, lookup, exact, first, next, counts, write, load, Done, done, hop_is, route_is, after, after_all, do_call, do_insert, do_load, do_open, do_write, left_by, load_sheet, removed, with_prefix}
 use Rattle.model.specs.Outcomes.{Outcome, granted, refused}
 use Rattle.model.specs.Plans.{plan_ok}
 use Rattle.model.specs.Required.{required}

@@ -7,11 +7,10 @@ use Rattle.bits.specs.Rows.{Bits, clear, padded}
 use Rattle.bits.specs.Order.{same}
 use Rattle.bits.proofs.Orders.{holds, fails, decided, same_eq, same_flips}
 use Rattle.laws.specs.Lists.{Apart, Different, Granted, InRange, InsertionLaws, insert_all, put_all}
-use Rattle.laws.proofs.TenGranted.{insert_granted}
+use Rattle.laws.proofs.Granted.{insert_granted}
 use Rattle.laws.proofs.Required.{fewer}
 use Rattle.laws.proofs.Routes.{find_put, find_put_other, put_ascends, unique}
-use Rattle.model.specs.Calls.{Plain, holding}
-use Rattle.model.specs.TenCalls.{insert, inserted, done, perform, after_all, left_by}
+use Rattle.model.specs.Calls.{Plain, holding, insert, inserted, done, perform, after_all, left_by}
 use Rattle.model.specs.Outcomes.{is_granted}
 use Rattle.model.specs.Required.{required}
 use Rattle.model.specs.Routes.{Route, Routes, Ascending, find, last_hop, prefix_of, put, sound}

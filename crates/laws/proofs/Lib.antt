@@ -2,7 +2,6 @@ pub mod Orders
 pub mod Routes
 pub mod Places
 pub mod Granted
-pub mod TenGranted
 pub mod Insertions
 pub mod Plans
 pub mod Levels

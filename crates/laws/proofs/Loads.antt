@@ -5,8 +5,7 @@ use Rattle.bits.specs.Order.{flipped, order}
 use Rattle.bits.specs.Rows.{Bits}
 use Rattle.laws.specs.Lists.{insert_all, put_all}
 use Rattle.laws.specs.Messages.{LoadLaw}
-use Rattle.model.specs.Calls.{Plain, holding}
-use Rattle.model.specs.TenCalls.{Done, open_with, load_sheet, after_all, after}
+use Rattle.model.specs.Calls.{Plain, holding, Done, open_with, load_sheet, after_all, after}
 use Rattle.model.specs.Required.{member, required, required_paths}
 use Rattle.model.specs.Routes.{Route, Routes, Ascending, put}
 use Rattle.laws.proofs.Insertions.{all_held}

@@ -7,7 +7,7 @@ use Rattle.laws.proofs.Readings.{Left, end_at, left_behind, left_whole, number_a
 use Rattle.laws.proofs.Sheets.{as_read, behind, digits, prefix_left, prefix_read}
 use Rattle.model.specs.Blocks.{Update, block, block_bytes, prefixes_bytes, read_announced, read_block, read_withdrawn}
 use Rattle.model.specs.Bytes.{Bytes, big_endian, prefix_bytes}
-use Rattle.model.specs.TenCalls.{delete, insert}
+use Rattle.model.specs.Calls.{delete, insert}
 use Rattle.model.specs.Outcomes.{granted}
 use Rattle.model.specs.Reading.{series}
 use Rattle.model.specs.Routes.{Route, Routes}

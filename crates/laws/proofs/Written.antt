@@ -8,7 +8,7 @@ use Rattle.faults.specs.declared.Layer.TheVariants.{Table}
 use Rattle.laws.specs.Lists.{InRange}
 use Rattle.laws.specs.Messages.{Octets}
 use Rattle.model.specs.Bytes.{Bytes, big_endian, byte_count, unpack, prefix_bytes}
-use Rattle.model.specs.TenCalls.{load_sheet}
+use Rattle.model.specs.Calls.{load_sheet}
 use Rattle.model.specs.Plans.{same_strides}
 use Rattle.model.specs.Reading.{bytes, number_in, end, series}
 use Rattle.model.specs.Outcomes.{granted}

@@ -3,8 +3,7 @@ use Rattle.std.specs.Prelude.{◌≡◌, ℕ, ◌≤◌, true, false, List, [], 
 use mathlib.Core.List.{Permᴰ}
 use Rattle.bits.specs.Rows.{Bits, padded}
 use Rattle.bits.specs.Order.{same}
-use Rattle.model.specs.Calls.{Plain, shut, holding}
-use Rattle.model.specs.TenCalls.{Call, insert, perform, after, after_all}
+use Rattle.model.specs.Calls.{Plain, shut, holding, Call, insert, perform, after, after_all}
 use Rattle.model.specs.Outcomes.{is_granted}
 use Rattle.model.specs.Plans.{plan_ok}
 use Rattle.model.specs.Required.{required}

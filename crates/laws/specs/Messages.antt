@@ -4,8 +4,7 @@ use Rattle.bits.specs.Rows.{Bits}
 use Rattle.laws.specs.Lists.{InRange, insert_all}
 use Rattle.model.specs.Blocks.{Update, block_bytes, follow, prefixes_bytes, read_block}
 use Rattle.model.specs.Bytes.{Bytes, byte_count, pack, prefix_bytes, unpack}
-use Rattle.model.specs.Calls.{Plain, holding}
-use Rattle.model.specs.TenCalls.{open_with, insert, delete, load, loaded, Done, perform, after_all}
+use Rattle.model.specs.Calls.{Plain, holding, open_with, insert, delete, load, loaded, Done, perform, after_all}
 use Rattle.model.specs.Follow.{follow_blocks, follow_bytes, follow_input, limit}
 use Rattle.model.specs.Outcomes.{granted}
 use Rattle.model.specs.Plans.{plan_ok}

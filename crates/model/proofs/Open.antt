@@ -5,7 +5,7 @@ use Rattle.model.specs.Plans.{plan_ok}
 use Rattle.model.specs.Required.{required_paths, required, path_count}
 use Rattle.model.specs.Bytes.{prefix_bytes}
 use Rattle.model.specs.Sheets.{route_bytes, sheet_bytes, read_prefix, read_route, sheet, read_sheet}
-use Rattle.model.specs.TenCalls.{load_sheet}
+use Rattle.model.specs.Calls.{load_sheet}
 use Rattle.model.specs.Blocks.{read_withdrawn, read_announced, block, read_block}
 use Rattle.model.specs.Links.{join, follow_block}
 use Rattle.model.specs.Follow.{framed, follow_bytes, follow_input}

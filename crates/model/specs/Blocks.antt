@@ -6,8 +6,7 @@ use Rattle.faults.specs.declared.Layer.TheVariants.{Table, Link, Reader as ByRea
 use Rattle.faults.specs.Numbers.{bad_hop, bad_number, not_due}
 use Rattle.bits.specs.Rows.{Bits}
 use Rattle.model.specs.Bytes.{Bytes, big_endian, prefix_bytes}
-use Rattle.model.specs.Calls.{Plain}
-use Rattle.model.specs.TenCalls.{Call, insert, delete, Done, perform, left_by}
+use Rattle.model.specs.Calls.{Plain, Call, insert, delete, Done, perform, left_by}
 use Rattle.model.specs.Outcomes.{Outcome, and_then, granted, refused}
 use Rattle.model.specs.Reading.{Reader, ◌>>=◌, ◌>>◌, give, end, must, number_in, series}
 use Rattle.model.specs.Routes.{Routes}

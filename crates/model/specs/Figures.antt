@@ -2,8 +2,7 @@
 use Rattle.std.specs.Prelude.{◌≡◌, ℕ, ◌^◌, List, [], ◌∷◌, ◌++◌, take, replicate, Some, None, slice_set}
 use Rattle.bits.specs.Rows.{Bits}
 use Rattle.model.specs.Bytes.{Bytes, unpack}
-use Rattle.model.specs.Calls.{shut}
-use Rattle.model.specs.TenCalls.{Call, open_with, insert, delete, lookup, counts, write, load, Answer, opened, inserted, deleted, matched, counted, written, loaded, answer, after_all}
+use Rattle.model.specs.Calls.{shut, Call, open_with, insert, delete, lookup, counts, write, load, Answer, opened, inserted, deleted, matched, counted, written, loaded, answer, after_all}
 use Rattle.model.specs.Follow.{follow_bytes, follow_call}
 use Rattle.model.specs.Blocks.{Followed}
 use Rattle.model.specs.Links.{follow_block}

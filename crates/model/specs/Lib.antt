@@ -7,7 +7,6 @@ pub mod Bytes
 pub mod Reading
 pub mod Sheets
 pub mod Calls
-pub mod TenCalls
 pub mod Blocks
 pub mod Links
 pub mod Follow

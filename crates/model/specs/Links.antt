@@ -4,8 +4,7 @@ use Rattle.faults.specs.declared.Layer.TheVariants.{Table}
 use Rattle.faults.specs.Numbers.{not_open}
 use Rattle.model.specs.Blocks.{Followed, follow, read_block}
 use Rattle.model.specs.Bytes.{Bytes}
-use Rattle.model.specs.Calls.{Plain, shut, holding}
-use Rattle.model.specs.TenCalls.{load_sheet}
+use Rattle.model.specs.Calls.{Plain, shut, holding, load_sheet}
 use Rattle.model.specs.Outcomes.{Outcome, and_then, granted, refused}
 
 -- the number that is due next, and the list as it is left

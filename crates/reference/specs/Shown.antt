@@ -1,12 +1,18 @@
--- The plain list that a route list stands for, and what a call comes to there.
+-- The plain list that a route list stands for, and what its calls come to there.
 use Rattle.std.specs.Prelude.{ℕ}
+use Rattle.std.specs.Option.{option_map}
 use Rattle.address.specs.declared.Address.{Ghosts}
+use Rattle.bits.specs.Rows.{Bits}
 use Rattle.model.specs.Outcomes.{Outcome}
-use Rattle.model.specs.Calls.{Plain, Call, Answer, answer, after}
+use Rattle.model.specs.Calls.{Plain, Call, Answer, inserted, deleted, matched, counted, answer, after}
 use Rattle.routes.specs.Answered.{planned}
+use Rattle.routes.specs.Meant.{meant}
+use Rattle.reference.specs.declared.Counted.{Counted}
+use Rattle.reference.specs.declared.Deleted.{Deleted}
+use Rattle.reference.specs.declared.Inserted.{Inserted}
+use Rattle.reference.specs.declared.Matched.{Matched}
 use Rattle.reference.specs.declared.RouteList.{RouteList}
 
--- a type with ghost fields is named with what its bounds mean, whatever that is
 module _ {X : Type 0} {G : Ghosts X} where
   -- the plain list that it stands for
   abbrev pub shown : RouteList X G → Plain
@@ -18,3 +24,17 @@ module _ {X : Type 0} {G : Ghosts X} where
 
   abbrev pub left_of : ℕ → RouteList X G → Call → Plain
   left_of W t call = after W t.nodes (shown t) call
+
+  -- what a lookup answered
+  abbrev pub match_answer : (X → Bits) → Matched X G → Answer
+  match_answer bits m = matched (option_map (meant bits) m.route) m.path
+
+-- what an insert, a delete and a count answered
+abbrev pub insert_answer : Inserted → Answer
+insert_answer x = inserted x.old x.taken
+
+abbrev pub delete_answer : Deleted → Answer
+delete_answer x = deleted x.hop x.returned
+
+abbrev pub count_answer : Counted → Answer
+count_answer x = counted x.routes x.required x.free

@@ -1,24 +1,60 @@
 //! The second engine: a sorted list of routes, plain rather than fast. It is what the tree of nodes is compared with.
 #![tactic(auto)]
 
+ghost use Rattle.std.specs.Prelude.{◌≡◌, ◌≤◌, true};
 ghost use Rattle.model.specs.Routes.{Ascending};
 ghost use Rattle.routes.specs.Ascends.{Ascending-prop};
+ghost use Rattle.reference.specs.Required.{plan_fits, required_by};
 
 use address::Address;
 use routes::set::RouteSet;
 use std::alloc::Global;
 
 pub mod calls;
+mod required;
 
 pub use routes::Route;
 pub use routes::failure::Failure;
 
-/// A list of routes for a memory of so many nodes: shut while it has no plan.
+/// A list of routes for a memory of so many nodes, of which the routes require so many: shut while it has no plan.
 #[derive(Drop)]
 pub struct RouteList<A: Address> {
     heap: Global,
     nodes: usize,
+    required: usize,
     plan: Option<Vec<u8>>,
     routes: RouteSet<A>,
     pub ghost ascends: { Ascending routes.routes } by { Ascending-prop routes.routes },
+    pub ghost enough: { required ≤ nodes },
+    pub ghost fits: { plan_fits A.Address.WIDTH plan ≡ true },
+    pub ghost counted: { required ≡ required_by plan routes.routes },
+}
+
+/// What an insert answers: the hop that was replaced, if any, and how many nodes are newly required.
+#[derive(Clone, Copy, PartialEq, Eq, Debug)]
+pub struct Inserted {
+    pub old: Option<u16>,
+    pub taken: usize,
+}
+
+/// What a delete answers: the hop of the route, and how many nodes are no longer required.
+#[derive(Clone, Copy, PartialEq, Eq, Debug)]
+pub struct Deleted {
+    pub hop: u16,
+    pub returned: usize,
+}
+
+/// What a lookup answers: the longest matching route, if any, and how many of the required nodes lie on the way of the address.
+#[derive(Clone, Copy)]
+pub struct Matched<A: Address> {
+    pub route: Option<Route<A>>,
+    pub path: usize,
+}
+
+/// How many routes there are, how many nodes they require, and how many are left.
+#[derive(Clone, Copy, PartialEq, Eq, Debug)]
+pub struct Counted {
+    pub routes: usize,
+    pub required: usize,
+    pub free: usize,
 }

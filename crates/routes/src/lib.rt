@@ -1,4 +1,4 @@
-//! Routes, sets of them, and what is asked of a plan: what the engines that keep a plain list of routes have in common.
+//! Routes, ascending sets of them, and what is asked of a plan.
 #![tactic(auto)]
 
 ghost use Rattle.std.specs.Prelude.{◌≡◌, ◌≤◌, ⊤};

@@ -2,7 +2,7 @@ use address::ipv4::Ipv4;
 use address::prefix::Prefix;
 use anyhow::anyhow;
 use faults::Refusal;
-use reference_nodes::{Counted, Deleted, Failure, Inserted, Matched, Route, RouteList};
+use reference::{Counted, Deleted, Failure, Inserted, Matched, Route, RouteList};
 use std::fmt;
 
 // an IPv4 address as four bytes

@@ -1,2 +1,0 @@
-pub mod Required
-pub mod Shown
