@@ -3,6 +3,7 @@ pub mod Lines
 pub mod Kinds
 pub mod Told
 pub mod Counted
+pub mod Stands
 pub mod Commands
+pub mod Words
 pub mod Replies
-pub mod Looked

@@ -1,4 +1,3 @@
-use crate::engine::Engine;
 use crate::kind::Kind;
 use crate::reply::Misread;
 use crate::words::{Word, Words};
@@ -11,7 +10,7 @@ use text::prefix::read_prefix;
 
 // What a line asks for.
 #[derive(Drop)]
-pub(crate) enum Command<A: Address, O> {
+pub(crate) enum Command<A: Address> {
     Kind(Kind),
     Open(usize, Vec<u8>),
     Insert(Prefix<A>, u16),
@@ -20,11 +19,18 @@ pub(crate) enum Command<A: Address, O> {
     Exact(Prefix<A>),
     First,
     Next(Prefix<A>),
+    Counts,
     List,
     Help,
-    // a command that only this console has
-    Own(O),
 }
+
+// All commands, as `help` tells them.
+pub(crate) const HELP: &str =
+    "commands: kind ipv4|ipv6; open NODES STRIDE,STRIDE,..; insert PREFIX HOP; delete PREFIX; lookup ADDRESS; exact PREFIX; first; next PREFIX; counts; list; help; # REMARK";
+
+// The first words of commands, as they are expected of a line.
+const COMMANDS: &str =
+    "kind, open, insert, delete, lookup, exact, first, next, counts, list or help";
 
 const KIND: &str = "kind ipv4|ipv6";
 
@@ -119,16 +125,13 @@ impl<'a> Arguments<'a> {
     }
 }
 
-fn read_kind<A: Address, O: Drop>(mut rest: Arguments<'_>) -> Result<Command<A, O>, Misread> {
+fn read_kind<A: Address>(mut rest: Arguments<'_>) -> Result<Command<A>, Misread> {
     let word = rest.word()?;
     rest.end()?;
     Ok(Command::Kind(rest.parse(word)?))
 }
 
-fn read_open<A: Address, O: Drop>(
-    heap: Global,
-    mut rest: Arguments<'_>,
-) -> Result<Command<A, O>, Trouble> {
+fn read_open<A: Address>(heap: Global, mut rest: Arguments<'_>) -> Result<Command<A>, Trouble> {
     let word = rest.word()?;
     let nodes: usize = rest.parse(word)?;
     if nodes > MOST_NODES {
@@ -139,7 +142,7 @@ fn read_open<A: Address, O: Drop>(
     Ok(Command::Open(nodes, rest.strides(heap, word)?))
 }
 
-fn read_insert<A: AddressText, O: Drop>(mut rest: Arguments<'_>) -> Result<Command<A, O>, Misread> {
+fn read_insert<A: AddressText>(mut rest: Arguments<'_>) -> Result<Command<A>, Misread> {
     let prefix = rest.prefix()?;
     let word = rest.word()?;
     let hop = rest.parse(word)?;
@@ -147,7 +150,7 @@ fn read_insert<A: AddressText, O: Drop>(mut rest: Arguments<'_>) -> Result<Comma
     Ok(Command::Insert(prefix, hop))
 }
 
-fn read_lookup<A: AddressText, O: Drop>(mut rest: Arguments<'_>) -> Result<Command<A, O>, Misread> {
+fn read_lookup<A: AddressText>(mut rest: Arguments<'_>) -> Result<Command<A>, Misread> {
     let word = rest.word()?;
     rest.end()?;
     let address = A::read(word.bytes).map_err(|stop| rest.misread(
@@ -164,20 +167,17 @@ fn read_prefixed<A: AddressText>(mut rest: Arguments<'_>) -> Result<Prefix<A>, M
 }
 
 // A command that is a word alone.
-fn alone<A: Address, O: Drop>(
-    mut rest: Arguments<'_>,
-    command: Command<A, O>,
-) -> Result<Command<A, O>, Misread> {
+fn alone<A: Address>(mut rest: Arguments<'_>, command: Command<A>) -> Result<Command<A>, Misread> {
     rest.end()?;
     Ok(command)
 }
 
 // The command of a line, by its first word and those behind it.
-pub(crate) fn read_command<E: Engine>(
+pub(crate) fn read_command<A: AddressText>(
     heap: Global,
     first: Word<'_>,
     words: Words<'_>,
-) -> Result<Command<E::Address, E::Own>, Trouble> {
+) -> Result<Command<A>, Trouble> {
     let rest = |usage| Arguments { words, usage };
     let command = match first.bytes {
         b"kind" => read_kind(rest(KIND))?,
@@ -188,15 +188,13 @@ pub(crate) fn read_command<E: Engine>(
         b"exact" => Command::Exact(read_prefixed(rest(EXACT))?),
         b"first" => alone(rest("first"), Command::First)?,
         b"next" => Command::Next(read_prefixed(rest(NEXT))?),
+        b"counts" => alone(rest("counts"), Command::Counts)?,
         b"list" => alone(rest("list"), Command::List)?,
         b"help" => alone(rest("help"), Command::Help)?,
-        other => match E::own_command(other) {
-            Some(command) => alone(rest(E::own_word(&command)), Command::Own(command))?,
-            None => return Err(Trouble::Misread(Misread {
-                expected: E::COMMANDS,
-                place: first.place,
-            })),
-        },
+        _ => return Err(Trouble::Misread(Misread {
+            expected: COMMANDS,
+            place: first.place,
+        })),
     };
     Ok(command)
 }

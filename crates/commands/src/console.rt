@@ -1,28 +1,28 @@
 ghost use Rattle.std.specs.Prelude.{◌≡◌, IfOk};
 ghost use Rattle.commands.specs.Counted.{counted};
 
-use crate::engine::Engine;
 use crate::kind::Kind;
 use crate::reply::{NoMemory, Reply};
 use crate::session::answer;
 use crate::summary::Summary;
 use address::ipv4::Ipv4;
 use address::ipv6::Ipv6;
+use reference::RouteList;
 use std::alloc::Global;
 
 // The routes of the kind of address that is in use.
 #[derive(Drop)]
-enum Routes<V4: Engine<Address = Ipv4>, V6: Engine<Address = Ipv6>> {
-    Ipv4(V4),
-    Ipv6(V6),
+enum Routes {
+    Ipv4(RouteList<Ipv4>),
+    Ipv6(RouteList<Ipv6>),
 }
 
-impl<V4: Engine<Address = Ipv4>, V6: Engine<Address = Ipv6>> Routes<V4, V6> {
+impl Routes {
     // A list of a kind that is not yet open.
-    fn new(heap: Global, kind: Kind) -> Routes<V4, V6> {
+    fn new(heap: Global, kind: Kind) -> Routes {
         match kind {
-            Kind::Ipv4 => Routes::Ipv4(V4::new(heap)),
-            Kind::Ipv6 => Routes::Ipv6(V6::new(heap)),
+            Kind::Ipv4 => Routes::Ipv4(RouteList::new(heap, 0)),
+            Kind::Ipv6 => Routes::Ipv6(RouteList::new(heap, 0)),
         }
     }
 
@@ -42,16 +42,16 @@ impl<V4: Engine<Address = Ipv4>, V6: Engine<Address = Ipv6>> Routes<V4, V6> {
 
 /// A console: the routes that its commands work on, and the count of its lines. It begins with IPv4.
 #[derive(Drop)]
-pub struct Console<V4: Engine<Address = Ipv4>, V6: Engine<Address = Ipv6>> {
+pub struct Console {
     heap: Global,
-    routes: Routes<V4, V6>,
+    routes: Routes,
     /// What the lines so far came to.
     pub summary: Summary,
 }
 
-impl<V4: Engine<Address = Ipv4>, V6: Engine<Address = Ipv6>> Console<V4, V6> {
+impl Console {
     /// A console that has read no line.
-    pub fn new(heap: Global) -> Console<V4, V6>
+    pub fn new(heap: Global) -> Console
         ensures { result.summary ≡ record { lines = 0; answered = 0; refused = 0; misread = 0 } }
     {
         Console {

@@ -1,8 +1,11 @@
 ghost use Rattle.std.specs.Prelude.{◌≡◌, Some, IfOk, codes};
+ghost use Rattle.std.specs.Option.{option_map};
+ghost use Rattle.routes.specs.Meant.{meant};
 ghost use Rattle.commands.specs.Told.{misread_told, route_text_told, route_spelled, found_told, found_spelled, hop_told, opened_told, reply_told};
+ghost use Rattle.commands.specs.Words.{FoundWords};
 
-use crate::engine::Entry;
 use crate::kind::Kind;
+use routes::Route;
 use std::alloc::{AllocError, Global};
 use std::error::Error;
 use std::fmt;
@@ -86,7 +89,7 @@ pub struct RouteText {
 
 impl RouteText {
     /// The words of a route.
-    pub fn new<A: AddressText>(heap: Global, route: &Entry<A>) -> Result<RouteText, AllocError>
+    pub fn new<A: AddressText>(heap: Global, route: &Route<A>) -> Result<RouteText, AllocError>
         ensures { IfOk result (λ text. route_text_told text ≡ route_spelled A.AddressText.spelled route.now) }
     {
         let prefix = prefix_text(&route.prefix, heap)?;
@@ -112,8 +115,10 @@ pub struct Found(pub Option<RouteText>);
 
 impl Found {
     /// The words of a route, if there is one.
-    pub fn new<A: AddressText>(heap: Global, route: Option<Entry<A>>) -> Result<Found, AllocError>
-        ensures { IfOk result (λ found. found_told found.0 ≡ found_spelled A.AddressText.spelled route) }
+    #[tactic(auto, using(crate::proofs::Told::found_words))]
+    pub fn new<A: AddressText>(heap: Global, route: Option<Route<A>>) -> Result<Found, AllocError>
+        ensures spelled { IfOk result (λ found. found_told found.0 ≡ found_spelled A.AddressText.spelled route) }
+        ensures words { IfOk result (λ found. FoundWords A.Address.bits A.AddressText.spelled (option_map (meant A.Address.bits) route) (found_told found.0)) }
     {
         match route {
             Some(route) => Ok(Found(Some(RouteText::new(heap, &route)?))),

@@ -1,13 +1,25 @@
-ghost use Rattle.std.specs.Prelude.{◌≡◌, IfOk, OnOk};
-ghost use Rattle.commands.specs.Commands.{commanded};
-ghost use Rattle.commands.specs.Replies.{Replies};
+ghost use Rattle.std.specs.Prelude.{◌≡◌, ◌∷◌, ◌++◌, length, is_ok, if◌then◌else◌, Err, IfOk, IfErr, OnOk, string_bytes};
+ghost use Rattle.std.specs.Option.{option_map};
+ghost use Rattle.model.specs.Calls.{Answer, route_is, open_with, answer, shut};
+ghost use Rattle.model.specs.Outcomes.{Outcome, outcome};
+ghost use Rattle.reference.specs.Shown.{insert_answer, delete_answer, match_answer};
+ghost use Rattle.routes.specs.Answered.{Says};
+ghost use Rattle.routes.specs.Meant.{meant};
+ghost use Rattle.commands.specs.Commands.{commanded, newly_open, opened_by};
+ghost use Rattle.commands.specs.Replies.{Comes, OpenReplied, Replied, Replies};
+ghost use Rattle.commands.specs.Stands.{stands};
+ghost use Rattle.commands.specs.Told.{opened_told, inserted_told, deleted_told, found_told, matched_told, prefix_spelled};
+ghost use Rattle.commands.specs.Words.{OpenedWords, InsertedWords, DeletedWords, MatchedWords, RouteAnswerWords};
+ghost use Rattle.commands.specs.declared.command.Command.TheVariants.{Insert, Delete, Lookup, Exact, First, Next, Counts};
 
-use crate::command::{Command, Trouble, read_command};
-use crate::engine::{Engine, Entry};
+use crate::answers::{Counted, Deleted, Inserted, Matched};
+use crate::command::{Command, HELP, Trouble, read_command};
 use crate::reply::{Found, HopFound, NoMemory, Opened, Reply, RouteText};
 use crate::words::Words;
 use address::prefix::Prefix;
 use faults::Fault;
+use reference::RouteList;
+use routes::Route;
 use routes::failure::Failure;
 use std::alloc::{AllocError, Global};
 use std::fmt::Display;
@@ -16,14 +28,16 @@ use text::AddressText;
 use text::prefix::prefix_text;
 
 // The allocator goes beside the list: it is a handle of no size, which calls of the library take first, and a struct of both would only hand it on.
-// Each call has a function of its own, whose contract says what that call leaves.
+// Each call has a function of its own, whose contract says what that call leaves and how it is told.
 
 // A command with its prefix.
 fn named<A: AddressText>(
     heap: Global,
     command: &str,
     prefix: &Prefix<A>,
-) -> Result<String, AllocError> {
+) -> Result<String, AllocError>
+    ensures { IfOk result (λ text. string_bytes text ≡ command.now ++ (32 ∷ prefix_spelled A.AddressText.spelled prefix.now)) }
+{
     format!(in heap; "{command} {}", prefix_text(prefix, heap)?)
 }
 
@@ -33,7 +47,7 @@ fn reply<T: Display + Drop>(
     asked: &str,
     answer: Result<T, Failure>,
 ) -> Result<Reply<'static>, NoMemory>
-    ensures { IfOk result (Replies T.output asked.now answer) }
+    ensures { IfOk result (Replies asked.now T.output answer) }
 {
     match answer {
         Ok(answer) => Ok(Reply::Answered(format!(in heap; "{asked}: {answer}")?)),
@@ -42,16 +56,50 @@ fn reply<T: Display + Drop>(
     }
 }
 
+// What an insert answered, with the hop that was put in.
+fn inserted(hop: u16, answer: Result<reference::Inserted, Failure>) -> Result<Inserted, Failure>
+    ensures told { (o : Outcome Answer) → Says insert_answer answer o → Comes (λ inserted. inserted_told inserted.hop inserted.answer.old inserted.answer.taken) (InsertedWords hop) result o }
+    ensures failure { IfErr answer (λ e. result ≡ Err e) }
+{
+    Ok(Inserted {
+        hop,
+        answer: answer?,
+    })
+}
+
+// What a delete answered.
+fn deleted(answer: Result<reference::Deleted, Fault>) -> Result<Deleted, Failure>
+    ensures { Comes (λ deleted. deleted_told deleted.0.hop deleted.0.returned) DeletedWords result (outcome delete_answer answer) }
+{
+    Ok(Deleted(answer?))
+}
+
 // A route that was found, in words.
 fn found<A: AddressText>(
     heap: Global,
-    answer: Result<Option<Entry<A>>, Fault>,
-) -> Result<Found, Failure> {
+    answer: Result<Option<Route<A>>, Fault>,
+) -> Result<Found, Failure>
+    ensures { Comes (λ found. found_told found.0) (RouteAnswerWords A.Address.bits A.AddressText.spelled) result (outcome (λ o. route_is (option_map (meant A.Address.bits) o)) answer) }
+{
     Ok(Found::new(heap, answer?)?)
 }
 
+// A route that matches, in words, and the nodes on the path.
+fn matched<A: AddressText>(
+    heap: Global,
+    answer: Result<reference::Matched<A>, Fault>,
+) -> Result<Matched, Failure>
+    ensures { Comes (λ matched. matched_told (found_told matched.found.0) matched.path) (MatchedWords A.Address.bits A.AddressText.spelled) result (outcome (match_answer A.Address.bits) answer) }
+{
+    let answer = answer?;
+    Ok(Matched {
+        found: Found::new(heap, answer.route)?,
+        path: answer.path,
+    })
+}
+
 // Every route, the smallest first, and how many they are.
-fn list_all<E: Engine>(heap: Global, list: &E) -> Result<String, Failure> {
+fn list_all<A: AddressText>(heap: Global, list: &RouteList<A>) -> Result<String, Failure> {
     let mut lines = String::new(heap);
     let mut count: u64 = 0;
     let routes = iter::successors(list.first().transpose(), |at| match at {
@@ -66,89 +114,127 @@ fn list_all<E: Engine>(heap: Global, list: &E) -> Result<String, Failure> {
     Ok(format!(in heap; "routes held: {count}{lines}")?)
 }
 
-fn open<E: Engine>(
+// Another list, for so many nodes, takes the place of this one where it opens.
+fn replace<A: AddressText>(
     heap: Global,
-    list: &mut E,
+    list: &mut RouteList<A>,
+    nodes: usize,
+    strides: &[u8],
+) -> Result<Opened, Failure>
+    ensures answer { Comes (λ opened. opened_told opened.nodes opened.strides) (OpenedWords nodes (length strides.now)) result (answer A.Address.WIDTH nodes shut (open_with strides.now)) }
+    ensures after { stands list.new ≡ (if is_ok result then newly_open A.Address.WIDTH nodes strides.now else stands list.old) }
+{
+    let mut opened = RouteList::new(heap, nodes);
+    opened.open(strides)?;
+    *list = opened;
+    Ok(Opened {
+        nodes,
+        strides: strides.len(),
+    })
+}
+
+#[tactic(auto, using(crate::proofs::Told::tells))]
+fn open<A: AddressText>(
+    heap: Global,
+    list: &mut RouteList<A>,
     nodes: usize,
     strides: &[u8],
 ) -> Result<Reply<'static>, NoMemory>
-    ensures { OnOk result (E.shown list.new ≡ E.opened list.old nodes strides.now) }
+    ensures after { OnOk result (stands list.new ≡ opened_by A.Address.WIDTH nodes strides.now (stands list.old)) }
+    ensures told { IfOk result (OpenReplied A.Address.WIDTH nodes strides.now) }
 {
-    let answer = list.open(heap, nodes, strides);
-    let opened = Opened {
-        nodes,
-        strides: strides.len(),
-    };
-    reply(heap, "open", answer.map(|_| opened))
+    reply(heap, "open", replace(heap, list, nodes, strides))
 }
 
-fn insert<E: Engine>(
+#[tactic(auto, using(crate::proofs::Told::tells))]
+fn insert<A: AddressText>(
     heap: Global,
-    list: &mut E,
-    prefix: Prefix<E::Address>,
+    list: &mut RouteList<A>,
+    prefix: Prefix<A>,
     hop: u16,
 ) -> Result<Reply<'static>, NoMemory>
-    ensures { OnOk result (E.shown list.new ≡ E.inserted list.old prefix hop) }
+    ensures after { OnOk result (stands list.new ≡ commanded A.Address.WIDTH A.Address.bits (Insert prefix hop) (stands list.old)) }
+    ensures told { IfOk result (Replied A.Address.WIDTH A.Address.bits A.AddressText.spelled (Insert prefix hop) (stands list.old)) }
 {
     let asked = named(heap, "insert", &prefix)?;
-    reply(heap, asked.as_str(), list.insert(prefix, hop))
+    let answer = list.insert(prefix, hop);
+    reply(heap, asked.as_str(), inserted(hop, answer))
 }
 
-fn delete<E: Engine>(
+#[tactic(auto, using(crate::proofs::Told::tells))]
+fn delete<A: AddressText>(
     heap: Global,
-    list: &mut E,
-    prefix: Prefix<E::Address>,
+    list: &mut RouteList<A>,
+    prefix: Prefix<A>,
 ) -> Result<Reply<'static>, NoMemory>
-    ensures { OnOk result (E.shown list.new ≡ E.deleted list.old prefix) }
+    ensures after { OnOk result (stands list.new ≡ commanded A.Address.WIDTH A.Address.bits (Delete prefix) (stands list.old)) }
+    ensures told { IfOk result (Replied A.Address.WIDTH A.Address.bits A.AddressText.spelled (Delete prefix) (stands list.old)) }
 {
     let asked = named(heap, "delete", &prefix)?;
-    reply(
-        heap,
-        asked.as_str(),
-        list.delete(prefix).map_err(Failure::from),
-    )
+    let answer = list.delete(prefix);
+    reply(heap, asked.as_str(), deleted(answer))
 }
 
-fn lookup<E: Engine>(
+#[tactic(auto, using(crate::proofs::Told::tells))]
+fn lookup<A: AddressText>(
     heap: Global,
-    list: &E,
-    address: E::Address,
-) -> Result<Reply<'static>, NoMemory> {
+    list: &RouteList<A>,
+    address: A,
+) -> Result<Reply<'static>, NoMemory>
+    ensures { IfOk result (Replied A.Address.WIDTH A.Address.bits A.AddressText.spelled (Lookup address) (stands list.now)) }
+{
     let asked = format!(in heap; "lookup {}", address.text(heap)?)?;
-    reply(heap, asked.as_str(), list.lookup(heap, address))
+    reply(heap, asked.as_str(), matched(heap, list.lookup(address)))
 }
 
-fn exact<E: Engine>(
+#[tactic(auto, using(crate::proofs::Told::tells))]
+fn exact<A: AddressText>(
     heap: Global,
-    list: &E,
-    prefix: Prefix<E::Address>,
-) -> Result<Reply<'static>, NoMemory> {
+    list: &RouteList<A>,
+    prefix: Prefix<A>,
+) -> Result<Reply<'static>, NoMemory>
+    ensures { IfOk result (Replied A.Address.WIDTH A.Address.bits A.AddressText.spelled (Exact prefix) (stands list.now)) }
+{
     let asked = named(heap, "exact", &prefix)?;
     let answer = list.exact(prefix).map(HopFound);
     reply(heap, asked.as_str(), answer.map_err(Failure::from))
 }
 
-fn next<E: Engine>(
+#[tactic(auto, using(crate::proofs::Told::tells))]
+fn first<A: AddressText>(heap: Global, list: &RouteList<A>) -> Result<Reply<'static>, NoMemory>
+    ensures { IfOk result (Replied A.Address.WIDTH A.Address.bits A.AddressText.spelled First (stands list.now)) }
+{
+    reply(heap, "first", found(heap, list.first()))
+}
+
+#[tactic(auto, using(crate::proofs::Told::tells))]
+fn next<A: AddressText>(
     heap: Global,
-    list: &E,
-    prefix: Prefix<E::Address>,
-) -> Result<Reply<'static>, NoMemory> {
+    list: &RouteList<A>,
+    prefix: Prefix<A>,
+) -> Result<Reply<'static>, NoMemory>
+    ensures { IfOk result (Replied A.Address.WIDTH A.Address.bits A.AddressText.spelled (Next prefix) (stands list.now)) }
+{
     let asked = named(heap, "next", &prefix)?;
     reply(heap, asked.as_str(), found(heap, list.next(prefix)))
 }
 
-fn own<E: Engine>(heap: Global, list: &E, command: E::Own) -> Result<Reply<'static>, NoMemory> {
-    let asked = E::own_word(&command);
-    reply(heap, asked, list.own(command).map_err(Failure::from))
+#[tactic(auto, using(crate::proofs::Told::tells))]
+fn counts<A: AddressText>(heap: Global, list: &RouteList<A>) -> Result<Reply<'static>, NoMemory>
+    ensures { IfOk result (Replied A.Address.WIDTH A.Address.bits A.AddressText.spelled Counts (stands list.now)) }
+{
+    let answer = list.counts().map(Counted);
+    reply(heap, "counts", answer.map_err(Failure::from))
 }
 
 // Does what a command asks for.
-fn perform<E: Engine>(
+fn perform<A: AddressText>(
     heap: Global,
-    list: &mut E,
-    command: Command<E::Address, E::Own>,
+    list: &mut RouteList<A>,
+    command: Command<A>,
 ) -> Result<Reply<'static>, NoMemory>
-    ensures { OnOk result (E.shown list.new ≡ commanded E.shown E.opened E.inserted E.deleted command list.old) }
+    ensures after { OnOk result (stands list.new ≡ commanded A.Address.WIDTH A.Address.bits command (stands list.old)) }
+    ensures told { IfOk result (Replied A.Address.WIDTH A.Address.bits A.AddressText.spelled command (stands list.old)) }
 {
     match command {
         Command::Kind(kind) => Ok(Reply::Switched(kind)),
@@ -157,18 +243,18 @@ fn perform<E: Engine>(
         Command::Delete(prefix) => delete(heap, list, prefix),
         Command::Lookup(address) => lookup(heap, list, address),
         Command::Exact(prefix) => exact(heap, list, prefix),
-        Command::First => reply(heap, "first", found(heap, list.first())),
+        Command::First => first(heap, list),
         Command::Next(prefix) => next(heap, list, prefix),
+        Command::Counts => counts(heap, list),
         Command::List => reply(heap, "list", list_all(heap, list)),
-        Command::Help => Ok(Reply::Answered(String::from_str(heap, E::HELP)?)),
-        Command::Own(command) => own(heap, list, command),
+        Command::Help => Ok(Reply::Answered(String::from_str(heap, HELP)?)),
     }
 }
 
 // What the line of a number comes to, on a list of its kind.
-pub(crate) fn answer<'a, E: Engine>(
+pub(crate) fn answer<'a, A: AddressText>(
     heap: Global,
-    list: &mut E,
+    list: &mut RouteList<A>,
     number: u64,
     line: &'a [u8],
 ) -> Result<Reply<'a>, NoMemory> {
@@ -182,7 +268,7 @@ pub(crate) fn answer<'a, E: Engine>(
             Err(_) => Ok(Reply::Silence),
         };
     }
-    match read_command::<E>(heap, first, words) {
+    match read_command::<A>(heap, first, words) {
         Ok(command) => perform(heap, list, command),
         Err(Trouble::Misread(misread)) => Ok(Reply::Misread(number, misread)),
         Err(Trouble::NoMemory) => Err(NoMemory),

@@ -1,8 +1,7 @@
 ghost use Rattle.std.specs.Prelude.{◌≡◌, Some, codes};
-ghost use Rattle.commands.specs.Told.{found_told};
-ghost use Rattle.console.specs.Told.{several_told, inserted_told, deleted_told, matched_told, counted_told};
+ghost use Rattle.commands.specs.Told.{several_told, inserted_told, deleted_told, found_told, matched_told, counted_told};
 
-use commands::reply::Found;
+use crate::reply::Found;
 use std::fmt;
 
 // So many of a thing.
@@ -99,7 +98,3 @@ impl fmt::Display for Counted {
         write!(f, "{routes}, {required} required, {} free", self.0.free)
     }
 }
-
-// The command that only this console has.
-#[derive(Clone, Copy)]
-pub(crate) struct Counts;

@@ -1,0 +1,41 @@
+-- What was found in the words of the plain list's answers, and an answer that is told.
+use Rattle.std.proofs.Common.{◌≡◌, ℕ, List, Option, Some, None, refl, arith}
+use Rattle.std.specs.Prelude.{Ok, Err, Result}
+use Rattle.std.specs.Option.{option_map}
+use Rattle.address.specs.declared.Address.{Ghosts}
+use Rattle.model.specs.Calls.{Answer}
+use Rattle.model.specs.Outcomes.{Outcome, granted, refused}
+use Rattle.routes.specs.declared.Route.{Route}
+use Rattle.routes.specs.declared.failure.Failure.{Failure}
+use Rattle.routes.specs.declared.failure.Failure.TheVariants.{Refused as WasRefused, NoMemory}
+use Rattle.routes.specs.Meant.{meant}
+use Rattle.commands.specs.Told.{found_spelled}
+use Rattle.commands.specs.Words.{FoundWords}
+use Rattle.commands.specs.Replies.{Comes, Replies, Tells}
+use Rattle.commands.specs.declared.reply.Reply.{Reply}
+use Rattle.commands.specs.declared.reply.Reply.TheVariants.{Silence, Remark, Answered, Refused, Misread, Switched}
+
+-- the words of a route that was found are those of the route that it stands for
+pub found_words : {X : Type 0} {G : Ghosts X} (spelled : X → List ℕ) (o : Option (Route X G)) (words : List ℕ)
+    → words ≡ found_spelled spelled o → FoundWords G.bits spelled (option_map (meant G.bits) o) words
+found_words spelled None words e = e
+found_words spelled (Some r) words e = record { prefix = r.prefix; sound = r.sound; is = refl; told = e }
+
+-- a reply to a result tells what the result comes to
+pub tells : {T : Type 0} (words : T → List ℕ) (Words : Answer → List ℕ → Type 0) (asked : List ℕ) (result : Result T Failure) (o : Outcome Answer) (reply : Reply)
+    → Replies asked (λ x. Some (words x)) result reply → Comes words Words result o → Tells asked Words o reply
+tells words Words asked (Ok x) (granted a) (Answered text) r c = (words x, c, r)
+tells words Words asked (Ok x) (granted a) Silence r c = absurd r
+tells words Words asked (Ok x) (granted a) (Remark t) r c = absurd r
+tells words Words asked (Ok x) (granted a) (Refused text) r c = absurd r
+tells words Words asked (Ok x) (granted a) (Misread n m) r c = absurd r
+tells words Words asked (Ok x) (granted a) (Switched k) r c = absurd r
+tells words Words asked (Ok x) (refused number layer place) reply r c = absurd c
+tells words Words asked (Err (WasRefused f)) (granted a) reply r c = absurd (let z : ◌≡◌ {A = ℕ} 0 1 = cc in omega arith)
+tells words Words asked (Err (WasRefused f)) (refused number layer place) (Refused text) r c = (f.refusal, cc, r)
+tells words Words asked (Err (WasRefused f)) (refused number layer place) Silence r c = absurd r
+tells words Words asked (Err (WasRefused f)) (refused number layer place) (Remark t) r c = absurd r
+tells words Words asked (Err (WasRefused f)) (refused number layer place) (Answered text) r c = absurd r
+tells words Words asked (Err (WasRefused f)) (refused number layer place) (Misread n m) r c = absurd r
+tells words Words asked (Err (WasRefused f)) (refused number layer place) (Switched k) r c = absurd r
+tells words Words asked (Err NoMemory) o reply r c = absurd r
