@@ -11,7 +11,7 @@ use Rattle.routes.specs.declared.failure.Failure.TheVariants.{Refused as WasRefu
 use Rattle.routes.specs.Meant.{meant}
 use Rattle.commands.specs.Told.{found_spelled}
 use Rattle.commands.specs.Words.{FoundWords}
-use Rattle.commands.specs.Replies.{Comes, Replies, Tells}
+use Rattle.commands.specs.Replies.{Comes, Replies, Tells, ToldSomehow}
 use Rattle.commands.specs.declared.reply.Reply.{Reply}
 use Rattle.commands.specs.declared.reply.Reply.TheVariants.{Silence, Remark, Answered, Refused, Misread, Switched}
 
@@ -21,7 +21,7 @@ pub found_words : {X : Type 0} {G : Ghosts X} (spelled : X → List ℕ) (o : Op
 found_words spelled None words e = e
 found_words spelled (Some r) words e = record { prefix = r.prefix; sound = r.sound; is = refl; told = e }
 
--- a reply to a result tells what the result comes to
+-- a reply to a result tells what the result comes to,
 pub tells : {T : Type 0} (words : T → List ℕ) (Words : Answer → List ℕ → Type 0) (asked : List ℕ) (result : Result T Failure) (o : Outcome Answer) (reply : Reply)
     → Replies asked (λ x. Some (words x)) result reply → Comes words Words result o → Tells asked Words o reply
 tells words Words asked (Ok x) (granted a) (Answered text) r c = (words x, c, r)
@@ -39,3 +39,20 @@ tells words Words asked (Err (WasRefused f)) (refused number layer place) (Answe
 tells words Words asked (Err (WasRefused f)) (refused number layer place) (Misread n m) r c = absurd r
 tells words Words asked (Err (WasRefused f)) (refused number layer place) (Switched k) r c = absurd r
 tells words Words asked (Err NoMemory) o reply r c = absurd r
+
+-- and is an answer or a refusal in some words
+pub tells_somehow : {T : Type 0} (words : T → List ℕ) (asked : List ℕ) (result : Result T Failure) (reply : Reply)
+    → Replies asked (λ x. Some (words x)) result reply → ToldSomehow asked reply
+tells_somehow words asked (Ok x) (Answered text) r = (words x, r)
+tells_somehow words asked (Ok x) Silence r = absurd r
+tells_somehow words asked (Ok x) (Remark t) r = absurd r
+tells_somehow words asked (Ok x) (Refused text) r = absurd r
+tells_somehow words asked (Ok x) (Misread n m) r = absurd r
+tells_somehow words asked (Ok x) (Switched k) r = absurd r
+tells_somehow words asked (Err (WasRefused f)) (Refused text) r = (f.refusal, r)
+tells_somehow words asked (Err (WasRefused f)) Silence r = absurd r
+tells_somehow words asked (Err (WasRefused f)) (Remark t) r = absurd r
+tells_somehow words asked (Err (WasRefused f)) (Answered text) r = absurd r
+tells_somehow words asked (Err (WasRefused f)) (Misread n m) r = absurd r
+tells_somehow words asked (Err (WasRefused f)) (Switched k) r = absurd r
+tells_somehow words asked (Err NoMemory) reply r = absurd r

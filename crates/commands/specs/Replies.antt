@@ -1,5 +1,5 @@
 -- What is replied to a command.
-use Rattle.std.specs.Prelude.{◌≡◌, ⊤, ℕ, true, List, ◌++◌, length, Option, Ok, Err, Result, IfSome, codes, string_bytes, vec_items}
+use Rattle.std.specs.Prelude.{◌≡◌, ℕ, true, List, ◌++◌, length, Option, Ok, Err, Result, IfSome, codes, string_bytes, vec_items}
 use Rattle.bits.specs.Rows.{Bits}
 use Rattle.faults.specs.declared.Refusal.{Refusal}
 use Rattle.faults.specs.Numbers.{number_of, refusal_told}
@@ -39,12 +39,18 @@ module _ (asked : List ℕ) where
       (r : Refusal) × (number_of r ≡ number) × (string_bytes text ≡ told asked (refusal_told r))
   Tells Words (refused number layer place) _ = ⊥
 
+  -- an answer in some words, or a refusal
+  abbrev pub ToldSomehow : Reply → Type 0
+  ToldSomehow (Answered text) = (words : List ℕ) × (string_bytes text ≡ told asked words)
+  ToldSomehow (Refused text) = (r : Refusal) × (string_bytes text ≡ told asked (refusal_told r))
+  ToldSomehow _ = ⊥
+
 -- the reply to an opening, which a shut list for so many nodes answers
 abbrev pub OpenReplied : ℕ → ℕ → List ℕ → Reply → Type 0
 OpenReplied W nodes strides = Tells (codes "open") (OpenedWords nodes (length strides)) (answer W nodes shut (open_with strides))
 
 module _ {X : Type 0} (W : ℕ) (bits : X → Bits) (spelled : X → List ℕ) where
-  -- each call is told as the plain list answers it; of a list of all routes nothing is said
+  -- each call is told as the plain list answers it; of all routes it is not said which words tell them
   abbrev pub Replied : Command X → Standing → Reply → Type 0
   Replied (Kind kind) s reply = reply ≡ Switched kind
   Replied (Open nodes strides) s reply = OpenReplied W nodes (vec_items strides) reply
@@ -60,6 +66,6 @@ module _ {X : Type 0} (W : ℕ) (bits : X → Bits) (spelled : X → List ℕ) w
   Replied (Next p) s reply =
       Tells (codes "next " ++ prefix_spelled spelled p) (RouteAnswerWords bits spelled) (answer W s.nodes s.plain (next (bits p.address) p.length)) reply
   Replied Counts s reply = Tells (codes "counts") CountedWords (answer W s.nodes s.plain counts) reply
-  Replied ListAll s reply = ⊤
+  Replied ListAll s reply = ToldSomehow (codes "list") reply
   Replied Help s (Answered text) = string_bytes text ≡ help_told
   Replied Help s _ = ⊥

@@ -4,7 +4,7 @@ use Rattle.address.specs.declared.Address.{Ghosts}
 use Rattle.address.specs.declared.prefix.Prefix.{Prefix}
 use Rattle.routes.specs.declared.Route.{Route}
 use Rattle.commands.specs.Kinds.{kind_name}
-use Rattle.commands.specs.declared.reply.RouteText.{RouteText}
+use Rattle.commands.specs.declared.answers.RouteText.{RouteText}
 use Rattle.commands.specs.declared.reply.Misread.{Misread}
 use Rattle.commands.specs.declared.reply.Reply.{Reply}
 use Rattle.commands.specs.declared.reply.Reply.TheVariants.{Silence, Remark, Answered, Refused, Misread as NotRead, Switched}

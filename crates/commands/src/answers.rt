@@ -1,8 +1,79 @@
-ghost use Rattle.std.specs.Prelude.{◌≡◌, Some, codes};
-ghost use Rattle.commands.specs.Told.{several_told, inserted_told, deleted_told, found_told, matched_told, counted_told};
+ghost use Rattle.std.specs.Prelude.{◌≡◌, Some, IfOk, codes};
+ghost use Rattle.std.specs.Option.{option_map};
+ghost use Rattle.routes.specs.Meant.{meant};
+ghost use Rattle.commands.specs.Told.{route_text_told, route_spelled, found_told, found_spelled, several_told, opened_told, inserted_told, deleted_told, matched_told, hop_told, counted_told};
+ghost use Rattle.commands.specs.Words.{FoundWords};
 
-use crate::reply::Found;
+use routes::Route;
+use std::alloc::{AllocError, Global};
 use std::fmt;
+use text::AddressText;
+use text::prefix::prefix_text;
+
+// A route in words: the text of its prefix, and its hop.
+#[derive(Drop)]
+pub(crate) struct RouteText {
+    prefix: String,
+    hop: u16,
+}
+
+impl RouteText {
+    // The words of a route.
+    pub(crate) fn new<A: AddressText>(
+        heap: Global,
+        route: &Route<A>,
+    ) -> Result<RouteText, AllocError>
+        ensures { IfOk result (λ text. route_text_told text ≡ route_spelled A.AddressText.spelled route.now) }
+    {
+        let prefix = prefix_text(&route.prefix, heap)?;
+        Ok(RouteText {
+            prefix,
+            hop: route.hop,
+        })
+    }
+}
+
+// Writes the prefix and the hop.
+impl fmt::Display for RouteText {
+    ghost output = { λ text. Some (route_text_told text) };
+
+    fn fmt<W: fmt::Write>(&self, f: &mut fmt::Formatter<W>) -> fmt::Result {
+        write!(f, "{} by hop {}", self.prefix, self.hop)
+    }
+}
+
+// A route in words, if there is one.
+#[derive(Drop)]
+pub(crate) struct Found(Option<RouteText>);
+
+impl Found {
+    // The words of a route, if there is one.
+    #[tactic(auto, using(crate::proofs::Told::found_words))]
+    pub(crate) fn new<A: AddressText>(
+        heap: Global,
+        route: Option<Route<A>>,
+    ) -> Result<Found, AllocError>
+        ensures spelled { IfOk result (λ found. found_told found.0 ≡ found_spelled A.AddressText.spelled route) }
+        ensures words { IfOk result (λ found. FoundWords A.Address.bits A.AddressText.spelled (option_map (meant A.Address.bits) route) (found_told found.0)) }
+    {
+        match route {
+            Some(route) => Ok(Found(Some(RouteText::new(heap, &route)?))),
+            None => Ok(Found(None)),
+        }
+    }
+}
+
+// Writes the route, or that there is none.
+impl fmt::Display for Found {
+    ghost output = { λ found. Some (found_told found.0) };
+
+    fn fmt<W: fmt::Write>(&self, f: &mut fmt::Formatter<W>) -> fmt::Result {
+        match &self.0 {
+            Some(text) => write!(f, "{text}"),
+            None => f.write_str("no route"),
+        }
+    }
+}
 
 // So many of a thing.
 #[derive(Clone, Copy)]
@@ -31,6 +102,25 @@ fn nodes(count: usize) -> Several
     Several {
         count,
         noun: "node",
+    }
+}
+
+// An opening: for how many nodes, with how many strides.
+#[derive(Clone, Copy)]
+pub(crate) struct Opened {
+    pub(crate) nodes: usize,
+    pub(crate) strides: usize,
+}
+
+impl fmt::Display for Opened {
+    ghost output = { λ opened. Some (opened_told opened.nodes opened.strides) };
+
+    fn fmt<W: fmt::Write>(&self, f: &mut fmt::Formatter<W>) -> fmt::Result {
+        write!(
+            f,
+            "{} nodes, {} strides, no routes",
+            self.nodes, self.strides
+        )
     }
 }
 
@@ -79,6 +169,21 @@ impl fmt::Display for Matched {
     fn fmt<W: fmt::Write>(&self, f: &mut fmt::Formatter<W>) -> fmt::Result {
         let path = nodes(self.path);
         write!(f, "{}, {path}", self.found)
+    }
+}
+
+// The hop of a prefix, if it has a route.
+#[derive(Clone, Copy)]
+pub(crate) struct HopFound(pub(crate) Option<u16>);
+
+impl fmt::Display for HopFound {
+    ghost output = { λ found. Some (hop_told found.0) };
+
+    fn fmt<W: fmt::Write>(&self, f: &mut fmt::Formatter<W>) -> fmt::Result {
+        match self.0 {
+            Some(hop) => write!(f, "hop {hop}"),
+            None => f.write_str("no route"),
+        }
     }
 }
 

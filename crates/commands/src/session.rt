@@ -1,4 +1,4 @@
-ghost use Rattle.std.specs.Prelude.{◌≡◌, ◌∷◌, ◌++◌, length, is_ok, if◌then◌else◌, Err, IfOk, IfErr, OnOk, string_bytes};
+ghost use Rattle.std.specs.Prelude.{◌≡◌, ◌∷◌, ◌++◌, length, is_ok, if◌then◌else◌, Err, IfOk, IfErr, OnOk, codes, string_bytes};
 ghost use Rattle.std.specs.Option.{option_map};
 ghost use Rattle.model.specs.Calls.{Answer, route_is, open_with, answer, shut};
 ghost use Rattle.model.specs.Outcomes.{Outcome, outcome};
@@ -6,15 +6,15 @@ ghost use Rattle.reference.specs.Shown.{insert_answer, delete_answer, match_answ
 ghost use Rattle.routes.specs.Answered.{Says};
 ghost use Rattle.routes.specs.Meant.{meant};
 ghost use Rattle.commands.specs.Commands.{commanded, newly_open, opened_by};
-ghost use Rattle.commands.specs.Replies.{Comes, OpenReplied, Replied, Replies};
+ghost use Rattle.commands.specs.Replies.{Comes, OpenReplied, Replied, Replies, ToldSomehow};
 ghost use Rattle.commands.specs.Stands.{stands};
 ghost use Rattle.commands.specs.Told.{opened_told, inserted_told, deleted_told, found_told, matched_told, prefix_spelled};
 ghost use Rattle.commands.specs.Words.{OpenedWords, InsertedWords, DeletedWords, MatchedWords, RouteAnswerWords};
 ghost use Rattle.commands.specs.declared.command.Command.TheVariants.{Insert, Delete, Lookup, Exact, First, Next, Counts};
 
-use crate::answers::{Counted, Deleted, Inserted, Matched};
+use crate::answers::{Counted, Deleted, Found, HopFound, Inserted, Matched, Opened, RouteText};
 use crate::command::{Command, HELP, Trouble, read_command};
-use crate::reply::{Found, HopFound, NoMemory, Opened, Reply, RouteText};
+use crate::reply::{NoMemory, Reply};
 use crate::words::Words;
 use address::prefix::Prefix;
 use faults::Fault;
@@ -99,7 +99,7 @@ fn matched<A: AddressText>(
 }
 
 // Every route, the smallest first, and how many they are.
-fn list_all<A: AddressText>(heap: Global, list: &RouteList<A>) -> Result<String, Failure> {
+fn all_routes<A: AddressText>(heap: Global, list: &RouteList<A>) -> Result<String, Failure> {
     let mut lines = String::new(heap);
     let mut count: u64 = 0;
     let routes = iter::successors(list.first().transpose(), |at| match at {
@@ -227,6 +227,12 @@ fn counts<A: AddressText>(heap: Global, list: &RouteList<A>) -> Result<Reply<'st
     reply(heap, "counts", answer.map_err(Failure::from))
 }
 
+fn list_all<A: AddressText>(heap: Global, list: &RouteList<A>) -> Result<Reply<'static>, NoMemory>
+    ensures { IfOk result (ToldSomehow (codes "list")) }
+{
+    reply(heap, "list", all_routes(heap, list))
+}
+
 // Does what a command asks for.
 fn perform<A: AddressText>(
     heap: Global,
@@ -246,7 +252,7 @@ fn perform<A: AddressText>(
         Command::First => first(heap, list),
         Command::Next(prefix) => next(heap, list, prefix),
         Command::Counts => counts(heap, list),
-        Command::List => reply(heap, "list", list_all(heap, list)),
+        Command::List => list_all(heap, list),
         Command::Help => Ok(Reply::Answered(String::from_str(heap, HELP)?)),
     }
 }

@@ -1,4 +1,4 @@
-//! What the tests by long random histories share: dice, address kinds by numbers, a scan of an unsorted list of routes, and a tally of answers.
+//! What long random histories are made of: dice, address kinds by numbers, a scan of an unsorted list of routes, and a tally of answers.
 #![tactic(auto)]
 
 pub mod dice;

@@ -1,0 +1,7 @@
+use Rattle.std.proofs.Common.{codes, string_bytes}
+use Rattle.commands.proofs.Made.{made_so}
+use Rattle.commands.proofs.Told.{tells_somehow}
+use Rattle.commands.proofs.session.list_all.Goals as goal
+
+pub returns : goal.returns
+returns g c = made_so c.reply.result c.reply.ensures (λ reply h. tells_somehow string_bytes (codes "list") c.all_routes.result reply h)
