@@ -17,7 +17,8 @@ use routes::plans::is_plan;
 use routes::set::RouteSet;
 use std::alloc::Global;
 
-// `opened`, `exact`, `first` and `next` read alike in both engines: a line or two each, under a contract in the words of this engine's plain list.
+// `new`, `opened`, the tests of `open`, `exact`, `first` and `next` read alike in both engines: a line or two each, under a contract in the words of this
+// engine's plain list.
 impl<A: Address> RouteList<A> {
     /// A shut list, for a memory of so many nodes.
     pub fn new(heap: Global, nodes: usize) -> RouteList<A>
@@ -79,11 +80,9 @@ impl<A: Address> RouteList<A> {
     {
         self.opened()?;
         let prefix = SoundPrefix::new(prefix)?;
-        // By cases, which `ok_or` would hide from the proof.
-        match self.routes.remove(prefix) {
-            Some(hop) => Ok(hop),
-            None => Err(Fault::of_table(Refusal::Absent)),
-        }
+        self.routes
+            .remove(prefix)
+            .ok_or(Fault::of_table(Refusal::Absent))
     }
 
     /// The route with the longest prefix that matches the address, or none.

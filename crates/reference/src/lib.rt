@@ -1,8 +1,7 @@
 //! The second engine: a sorted list of routes, plain rather than fast. It is what the tree of nodes is compared with.
 #![tactic(auto)]
 
-ghost use Rattle.model.specs.Routes.{Ascending};
-ghost use Rattle.routes.specs.Ascends.{Ascending-prop};
+ghost use Rattle.routes.specs.InOrder.{InOrder, InOrder-prop};
 
 use address::Address;
 use routes::set::RouteSet;
@@ -20,5 +19,5 @@ pub struct RouteList<A: Address> {
     nodes: usize,
     plan: Option<Vec<u8>>,
     routes: RouteSet<A>,
-    pub ghost ascends: { Ascending routes.routes } by { Ascending-prop routes.routes },
+    pub ghost ordered: { InOrder A.Address.WIDTH routes.routes } by { InOrder-prop A.Address.WIDTH routes.routes },
 }
