@@ -27,6 +27,7 @@ impl<A: Address> Prefix<A> {
         true
     }
 
+    // No `Ord`, as for addresses (`Address::compare`).
     /// By address, then shorter first; of sound prefixes, that is the order of their bits, a prefix before those that it begins.
     pub fn compare(&self, other: &Prefix<A>) -> Ordering
         ensures value { result ≡ by_address (A.Address.bits self.now.address) self.now.length (A.Address.bits other.now.address) other.now.length }

@@ -56,7 +56,7 @@ impl<const N: u32> Row<N> {
         self.from_place(place) == 0
     }
 
-    // Two rows by the first bit that differs.
+    // Two rows by the first bit that differs. No `Ord`, as for addresses (`Address::compare`).
     pub fn compare(&self, other: &Row<N>) -> Ordering
         ensures { result ≡ order (row N self.now.number) (row N other.now.number) }
     {

@@ -141,3 +141,7 @@ layer_word Link = codes "link"
 -- a refusal by the table itself has no place
 abbrev pub of_table : Refusal → Fault
 of_table refusal = record { refusal = refusal; layer = Table; place = 0 }
+
+-- nor has one by a node memory
+abbrev pub of_memory : Refusal → Fault
+of_memory refusal = record { refusal = refusal; layer = Memory; place = 0 }

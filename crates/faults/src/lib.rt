@@ -2,7 +2,7 @@
 #![tactic(auto)]
 
 ghost use Rattle.std.specs.Prelude.{◌≡◌, Some};
-ghost use Rattle.faults.specs.Numbers.{number_of, word_of, meaning_of, refusal_told, layer_word, of_table};
+ghost use Rattle.faults.specs.Numbers.{number_of, word_of, meaning_of, refusal_told, layer_word, of_table, of_memory};
 
 use std::error::Error;
 use std::fmt;
@@ -177,6 +177,17 @@ impl Fault {
         Fault {
             refusal,
             layer: Layer::Table,
+            place: 0,
+        }
+    }
+
+    /// A refusal by a node memory, which has no place in a message either.
+    pub fn of_memory(refusal: Refusal) -> Fault
+        ensures { result ≡ of_memory refusal }
+    {
+        Fault {
+            refusal,
+            layer: Layer::Memory,
             place: 0,
         }
     }

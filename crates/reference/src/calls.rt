@@ -92,15 +92,13 @@ impl<A: Address> RouteList<A> {
             return Err(Fault::of_table(Refusal::Shut));
         };
         let prefix = SoundPrefix::new(prefix)?;
-        // By cases, which `ok_or` would hide from the proof.
-        match self.routes.remove(prefix) {
-            Some(hop) => {
-                let returned = missing_nodes(&self.routes, plan, &prefix.prefix);
-                self.required -= returned;
-                Ok(Deleted { hop, returned })
-            }
-            None => Err(Fault::of_table(Refusal::Absent)),
-        }
+        let hop = self
+            .routes
+            .remove(prefix)
+            .ok_or(Fault::of_table(Refusal::Absent))?;
+        let returned = missing_nodes(&self.routes, plan, &prefix.prefix);
+        self.required -= returned;
+        Ok(Deleted { hop, returned })
     }
 
     /// The route with the longest prefix that matches the address, or none, and the number of nodes on the path.

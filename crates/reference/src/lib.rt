@@ -2,8 +2,7 @@
 #![tactic(auto)]
 
 ghost use Rattle.std.specs.Prelude.{◌≡◌, ◌≤◌, true};
-ghost use Rattle.model.specs.Routes.{Ascending};
-ghost use Rattle.routes.specs.Ascends.{Ascending-prop};
+ghost use Rattle.routes.specs.InOrder.{InOrder, InOrder-prop};
 ghost use Rattle.reference.specs.Required.{plan_fits, required_by};
 
 use address::Address;
@@ -24,7 +23,7 @@ pub struct RouteList<A: Address> {
     required: usize,
     plan: Option<Vec<u8>>,
     routes: RouteSet<A>,
-    pub ghost ascends: { Ascending routes.routes } by { Ascending-prop routes.routes },
+    pub ghost ordered: { InOrder A.Address.WIDTH routes.routes } by { InOrder-prop A.Address.WIDTH routes.routes },
     pub ghost enough: { required ≤ nodes },
     pub ghost fits: { plan_fits A.Address.WIDTH plan ≡ true },
     pub ghost counted: { required ≡ required_by plan routes.routes },

@@ -44,7 +44,7 @@ fn needs<A: Address>(routes: &RouteSet<A>, address: &A, offset: u32) -> bool
 
 // That a plan has at most 32 strides is asked of three functions of this file alone, whose caller has it from its own ghost field.
 
-// How many of the offsets of a plan pass a test.
+// How many of the offsets of a plan pass a test. Offset and nodes grow together, so a fold would carry them as a pair.
 fn count_offsets<F: Fn(u32) -> bool>(plan: &[u8], test: &F) -> usize
     requires short { length plan.now ≤ 32 }
     requires callable { F.IsAlwaysCallable test.now }

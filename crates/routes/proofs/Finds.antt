@@ -3,6 +3,7 @@ use Rattle.std.proofs.Common.{◌≡◌, ℕ, zero, suc, ◌+◌, ◌<◌, ◌�
 use lib.ListN.{length-map}
 use lib.Seq.{set_split}
 use Rattle.std.proofs.lemmas.List.{drop_more, drop_all, get_or-map, map-append, map-set, take-map, drop-map}
+use Rattle.std.proofs.lemmas.List.{length-take-le}
 use Rattle.std.proofs.lemmas.Bool.{leb-true, leb-false, ltb-true, ltb-false}
 use Rattle.std.specs.List.{insert, remove, AllByRecursion}
 use Rattle.std.specs.List.Sorted.{IsSearchInRange, IsBinarySearchResult, IsNonDecreasingBy}
@@ -15,6 +16,7 @@ use Rattle.bits.proofs.Orders.{order_flips, order_chains, order_equal, compared,
 use Rattle.model.specs.Routes.{Route, Routes, route, find, last_hop, put, without, smallest, Ascending, Above}
 use Rattle.laws.proofs.Places.{Below, put_end, find_end, above_end, put_miss, find_miss, above_miss, put_hit, find_hit, above_hit, without_hit}
 use Rattle.laws.proofs.Routes.{above_chains}
+use Rattle.laws.specs.Lists.{InRange}
 use Rattle.routes.specs.declared.Route.{Route as Entry}
 use Rattle.routes.specs.Meant.{meant, prefix_bits}
 use Rattle.routes.specs.Found.{Hit, Miss}
@@ -55,6 +57,15 @@ pub element : {T : Type 0} (xs : List T) (i : ℕ) → i < length xs → (x : T)
 element [] i lt = absurd (omega arith)
 element (x ∷ xs) zero lt = (x, refl)
 element (x ∷ xs) (suc i) lt = element xs i (omega arith)
+
+-- the routes of the code are in range, each by its own facts
+pub all_ranged : {X : Type 0} {G : Ghosts X} (W : ℕ) → ((a : X) → length (G.bits a) ≡ W) → (xs : List (Entry X G)) → InRange W (map (meant G.bits) xs)
+all_ranged W long [] = tt
+all_ranged {X} {G} W long (r ∷ xs) =
+    let width = long r.prefix.address in
+    let within = r.sound.0 in
+    let size = length-take-le r.prefix.length (G.bits r.prefix.address) within in
+    ((omega arith), r.small, all_ranged W long xs)
 
 module _ {X : Type 0} {G : Ghosts X} (bits : X → Bits) (xs : List (Entry X G)) where
   abbrev means : Entry X G → Route

@@ -3,4 +3,4 @@ pub mod Meant
 pub mod Admitted
 pub mod Answered
 pub mod Found
-pub mod Ascends
+pub mod InOrder

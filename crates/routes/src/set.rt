@@ -2,9 +2,10 @@ ghost use Rattle.std.specs.Prelude.{◌≡◌, ◌≤◌, [], length, map, is_ok
 ghost use Rattle.std.specs.List.{All};
 ghost use Rattle.std.specs.Option.{option_map};
 ghost use Rattle.bits.specs.Order.{order, begins};
-ghost use Rattle.model.specs.Routes.{Ascending, find, put, without, longest, smallest, above};
+ghost use Rattle.model.specs.Routes.{find, put, without, longest, smallest, above};
 ghost use Rattle.routes.specs.Meant.{meant, prefix_bits};
 ghost use Rattle.routes.specs.Found.{Hit, Miss, LastMatch};
+ghost use Rattle.routes.specs.InOrder.{InOrder};
 
 use crate::{Route, SoundPrefix};
 use address::Address;
@@ -20,7 +21,7 @@ pub struct RouteSet<A: Address> {
 
 impl<A: Address> Model for RouteSet<A> {
     ghost use Rattle.std.specs.Prelude.{map, vec_capacity};
-    ghost use Rattle.model.specs.Routes.{Ascending};
+    ghost use Rattle.routes.specs.InOrder.{InOrder};
     ghost use Rattle.routes.specs.Kept.{Kept};
 
     ghost Value = { Kept };
@@ -29,7 +30,7 @@ impl<A: Address> Model for RouteSet<A> {
 
     ghost view = { λ s. record { routes = map (meant A.Address.bits) s.routes.items; room = vec_capacity s.routes } };
 
-    ghost invariant = { λ s. Ascending (map (meant A.Address.bits) s.routes.items) };
+    ghost invariant = { λ s. InOrder A.Address.WIDTH (map (meant A.Address.bits) s.routes.items) };
 }
 
 // A route's prefix beside another, by address, then shorter first.
@@ -67,7 +68,7 @@ impl<A: Address> RouteSet<A> {
     /// The routes in ascending order.
     pub fn as_slice(&self) -> &[Route<A>]
         ensures routes { map (meant A.Address.bits) result.now ≡ self.now.routes }
-        ensures ascends { Ascending self.now.routes }
+        ensures ordered { InOrder A.Address.WIDTH self.now.routes }
     {
         self.routes.as_slice()
     }
@@ -93,7 +94,7 @@ impl<A: Address> RouteSet<A> {
     pub fn put(&mut self, route: Route<A>) -> Result<Option<u16>, AllocError>
         ensures answer { MatchResult result (λ old. old ≡ find self.old.routes (prefix_bits A.Address.bits route.prefix)) (λ _. self.old.room ≤ length self.old.routes) }
         ensures after { self.new.routes ≡ (if is_ok result then put self.old.routes (prefix_bits A.Address.bits route.prefix) route.hop else self.old.routes) }
-        ensures ascends { Ascending self.new.routes }
+        ensures ordered { InOrder A.Address.WIDTH self.new.routes }
     {
         let prefix = SoundPrefix {
             prefix: route.prefix,
@@ -116,7 +117,7 @@ impl<A: Address> RouteSet<A> {
         ensures answer { result ≡ find self.old.routes (prefix_bits A.Address.bits prefix.prefix) }
         ensures after { self.new.routes ≡ without self.old.routes (prefix_bits A.Address.bits prefix.prefix) }
         ensures absent { IfNone result (self.new ≡ self.old) }
-        ensures ascends { Ascending self.new.routes }
+        ensures ordered { InOrder A.Address.WIDTH self.new.routes }
     {
         match self.place(prefix) {
             Ok(i) => Some(self.routes.remove(i).hop),

@@ -125,7 +125,7 @@ invariant_of-self-2 g c =
     let is : required_by t.plan c.put.new.self.routes ≡ required plan (put rs (prefix_bits bits c.args.prefix) h) =
     ap (λ o. required_by o c.put.new.self.routes) c.in-Some.is ∙ ap (required plan) new in
     record {
-      ascends = c.in_ok-old.ensures.ascends;
+      ordered = c.in_ok-old.ensures.ordered;
       enough = (let less = c.if-taken-self.false in let was = t.enough in omega arith);
       fits = t.fits;
       counted = omega arith;

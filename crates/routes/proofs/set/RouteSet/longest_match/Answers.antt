@@ -11,5 +11,5 @@ returns g c =
     let a = bits c.args.address.now in
     let shows = c.as_slice.ensures.routes in
     ap (option_map (meant bits)) c.copied.ensures
-    ∙ longest_is bits c.as_slice.result.now a (subst Ascending (sym shows) c.as_slice.ensures.ascends) c.last_match.result c.last_match.ensures
+    ∙ longest_is bits c.as_slice.result.now a (subst Ascending (sym shows) c.as_slice.ensures.ordered.0) c.last_match.result c.last_match.ensures
     ∙ ap (λ (rs : Routes). longest rs a) shows

@@ -11,4 +11,4 @@ returns g c =
     let facts = c.binary_search_by.ensures in
     let p = prefix_bits g.A.Address.bits c.args.prefix.prefix in
     let compared = facts.position (λ held. order (prefix_bits g.A.Address.bits held.prefix) p) (always_returns_same _ _ _ (λ a r h called. search rules)) in
-    rw (← c.self.view_is, ← c.deref.ensures.value) (searched g.A.Address.bits _ (rw c.deref.ensures.value c.self.invariant) p _ facts.bound compared)
+    rw (← c.self.view_is, ← c.deref.ensures.value) (searched g.A.Address.bits _ (rw c.deref.ensures.value c.self.invariant.0) p _ facts.bound compared)
