@@ -1,13 +1,11 @@
 -- What a plan, routes and a call come to in the plain list, and the number of nodes that a call answers.
 use Rattle.std.proofs.Common.{◌≡◌, ℕ, ◌+◌, ◌-◌, ◌<◌, ◌≤◌, true, leb, List, length, Option, Some, sym, ap, ◌∙◌, subst, arith}
-use Rattle.std.specs.Prelude.{Vec, vec_items}
-use Rattle.std.specs.declared.alloc.Global.{Global}
+use Rattle.std.specs.Option.{option_map}
 use Rattle.std.proofs.lemmas.Bool.{le-leb, lt-leb}
 use Rattle.bits.specs.Rows.{Bits}
 use Rattle.bits.specs.Order.{Sound}
 use Rattle.laws.proofs.Counts.{newly_counted}
 use Rattle.laws.proofs.Paths.{put_requires}
-use Rattle.laws.proofs.Plans.{planned as plan_facts}
 use Rattle.laws.proofs.Required.{no_longer}
 use Rattle.laws.proofs.Granted.{delete_granted, insert_full, insert_granted}
 use Rattle.faults.specs.declared.Layer.TheVariants.{Table}
@@ -18,28 +16,24 @@ use Rattle.model.specs.Outcomes.{Outcome, and_then, granted, refused}
 use Rattle.model.specs.Plans.{offsets, plan_ok}
 use Rattle.model.specs.Required.{required}
 use Rattle.model.specs.Routes.{Routes, Ascending, prefix_of, find, last_hop, put, sound, without}
+use Rattle.address.specs.declared.Address.{Ghosts}
+use Rattle.plan.specs.declared.Plan.{Plan}
+use Rattle.plan.specs.Strides.{strides_of}
 use Rattle.routes.specs.Answered.{planned}
-use Rattle.reference.specs.Required.{plan_fits}
 
-module _ (W : ℕ) (o : Option (Vec ℕ Global)) (plan : Vec ℕ Global) (is : o ≡ Some plan) where
-  pub fits : plan_fits W o ≡ true → plan_ok W (vec_items plan) ≡ true
-  fits h = ap (plan_fits W) (sym is) ∙ h
-
-  pub few : plan_fits W o ≡ true → length (vec_items plan) ≤ 32
-  few h = (plan_facts W (vec_items plan) (fits h)).few
-
+module _ {X : Type 0} {G : Ghosts X} (W : ℕ) (o : Option (Plan X G)) (plan : Plan X G) (is : o ≡ Some plan) where
   -- what a call on the open list comes to
-  module _ (N : ℕ) (rs : Routes) (call : Call) (d : Outcome Done) (so : perform W N (holding (vec_items plan) rs) call ≡ d) where
-    pub is_open : planned o rs ≡ holding (vec_items plan) rs
-    is_open = ap (λ (q : Option (Vec ℕ Global)). planned q rs) is
+  module _ (N : ℕ) (rs : Routes) (call : Call) (d : Outcome Done) (so : perform W N (holding (strides_of plan) rs) call ≡ d) where
+    pub is_open : planned (option_map strides_of o) rs ≡ holding (strides_of plan) rs
+    is_open = ap (λ (q : Option (Plan X G)). planned (option_map strides_of q) rs) is
 
-    pub answered : answer W N (planned o rs) call ≡ and_then d (λ x. granted x.answered)
+    pub answered : answer W N (planned (option_map strides_of o) rs) call ≡ and_then d (λ x. granted x.answered)
     answered =
         ap (λ (p : Plain). answer W N p call) is_open
         ∙ ap (λ (q : Outcome Done). and_then q (λ x. granted x.answered)) so
 
-    pub left_is : after W N (planned o rs) call ≡ left_by (holding (vec_items plan) rs) d
-    left_is = ap (λ (p : Plain). after W N p call) is_open ∙ ap (left_by (holding (vec_items plan) rs)) so
+    pub left_is : after W N (planned (option_map strides_of o) rs) call ≡ left_by (holding (strides_of plan) rs) d
+    left_is = ap (λ (p : Plain). after W N p call) is_open ∙ ap (left_by (holding (strides_of plan) rs)) so
 
 -- the tests of a sound prefix pass
 module _ (W : ℕ) (a : Bits) (l : ℕ) (long : length a ≡ W) (s : Sound a l) where

@@ -5,6 +5,7 @@ use Rattle.address.specs.declared.Address.{Ghosts}
 use Rattle.bits.specs.Rows.{Bits}
 use Rattle.model.specs.Outcomes.{Outcome}
 use Rattle.model.specs.Calls.{Plain, Call, Answer, inserted, deleted, matched, counted, answer, after}
+use Rattle.plan.specs.Strides.{strides_of}
 use Rattle.routes.specs.Answered.{planned}
 use Rattle.routes.specs.Meant.{meant}
 use Rattle.reference.specs.declared.Counted.{Counted}
@@ -16,7 +17,7 @@ use Rattle.reference.specs.declared.RouteList.{RouteList}
 module _ {X : Type 0} {G : Ghosts X} where
   -- the plain list that it stands for
   abbrev pub shown : RouteList X G → Plain
-  shown t = planned t.plan t.routes.routes
+  shown t = planned (option_map strides_of t.plan) t.routes.routes
 
   -- what that plain list answers to a call, and what the call leaves of it
   abbrev pub answer_of : ℕ → RouteList X G → Call → Outcome Answer

@@ -13,8 +13,8 @@ use crate::{Counted, Deleted, Failure, Inserted, Matched, Route, RouteList};
 use address::Address;
 use address::prefix::Prefix;
 use faults::{Fault, Refusal};
+use plan::Plan;
 use routes::SoundPrefix;
-use routes::plans::is_plan;
 use routes::set::RouteSet;
 use std::alloc::Global;
 
@@ -25,7 +25,6 @@ impl<A: Address> RouteList<A> {
         ensures size { result.nodes ≡ nodes }
     {
         RouteList {
-            heap,
             nodes,
             required: 0,
             plan: None,
@@ -44,18 +43,16 @@ impl<A: Address> RouteList<A> {
     }
 
     /// Takes a plan and empties the list, also where it was open.
-    pub fn open(&mut self, strides: &[u8]) -> Result<(), Failure>
-        ensures answer { Says (λ _. opened) result (answer_of A.Address.WIDTH self.old (open_with strides.now)) }
-        ensures after { shown self.new ≡ leaves result (shown self.old) (left_of A.Address.WIDTH self.old (open_with strides.now)) }
+    pub fn open(&mut self, strides: &[u8]) -> Result<(), Fault>
+        ensures answer { outcome (λ _. opened) result ≡ answer_of A.Address.WIDTH self.old (open_with strides.now) }
+        ensures after { shown self.new ≡ left_of A.Address.WIDTH self.old (open_with strides.now) }
         ensures size { self.new.nodes ≡ self.old.nodes }
     {
-        if !is_plan(A::WIDTH, strides) {
-            return Err(Failure::Refused(Fault::of_table(Refusal::Plan)));
-        }
+        let plan = Plan::new(strides)?;
         if self.nodes == 0 {
-            return Err(Failure::Refused(Fault::of_table(Refusal::Size)));
+            return Err(Fault::of_table(Refusal::Size));
         }
-        self.plan = Some(Vec::from_slice(self.heap, strides)?);
+        self.plan = Some(plan);
         self.routes.clear();
         self.required = 1;
         Ok(())

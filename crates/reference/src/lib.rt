@@ -1,13 +1,15 @@
 //! The second engine: a sorted list of routes, plain rather than fast. It is what the tree of nodes is compared with.
 #![tactic(auto)]
 
-ghost use Rattle.std.specs.Prelude.{◌≡◌, ◌≤◌, true};
+ghost use Rattle.std.specs.Prelude.{◌≡◌, ◌≤◌};
+ghost use Rattle.std.specs.Option.{option_map};
+ghost use Rattle.plan.specs.Strides.{strides_of};
 ghost use Rattle.routes.specs.InOrder.{InOrder, InOrder-prop};
-ghost use Rattle.reference.specs.Required.{plan_fits, required_by};
+ghost use Rattle.reference.specs.Required.{required_by};
 
 use address::Address;
+use plan::Plan;
 use routes::set::RouteSet;
-use std::alloc::Global;
 
 pub mod calls;
 mod required;
@@ -18,15 +20,13 @@ pub use routes::failure::Failure;
 /// A list of routes for a memory of so many nodes, of which the routes require so many: shut while it has no plan.
 #[derive(Drop)]
 pub struct RouteList<A: Address> {
-    heap: Global,
     nodes: usize,
     required: usize,
-    plan: Option<Vec<u8>>,
+    plan: Option<Plan<A>>,
     routes: RouteSet<A>,
     pub ghost ordered: { InOrder A.Address.WIDTH routes.routes } by { InOrder-prop A.Address.WIDTH routes.routes },
     pub ghost enough: { required ≤ nodes },
-    pub ghost fits: { plan_fits A.Address.WIDTH plan ≡ true },
-    pub ghost counted: { required ≡ required_by plan routes.routes },
+    pub ghost counted: { required ≡ required_by (option_map strides_of plan) routes.routes },
 }
 
 /// What an insert answers: the hop that was replaced, if any, and how many nodes are newly required.

@@ -1,12 +1,14 @@
-ghost use Rattle.std.specs.Prelude.{◌≡◌, ◌≤◌, ℕ, ◌&&◌, Bool, length, nat_le};
+ghost use Rattle.std.specs.Prelude.{◌≡◌, ℕ, ◌&&◌, Bool, nat_le};
 ghost use Rattle.std.specs.List.{list_any};
 ghost use Rattle.bits.specs.Order.{begins};
 ghost use Rattle.model.specs.Plans.{offsets};
 ghost use Rattle.laws.specs.Counts.{count, missing, needed, shared};
+ghost use Rattle.plan.specs.Strides.{strides_of};
 ghost use Rattle.routes.specs.Meant.{prefix_bits};
 
 use address::Address;
 use address::prefix::Prefix;
+use plan::Plan;
 use routes::Route;
 use routes::set::RouteSet;
 
@@ -42,17 +44,14 @@ fn needs<A: Address>(routes: &RouteSet<A>, address: &A, offset: u32) -> bool
     offset == 0 || shares(routes, address, offset)
 }
 
-// That a plan has at most 32 strides is asked of three functions of this file alone, whose caller has it from its own ghost field.
-
 // How many of the offsets of a plan pass a test. Offset and nodes grow together, so a fold would carry them as a pair.
-fn count_offsets<F: Fn(u32) -> bool>(plan: &[u8], test: &F) -> usize
-    requires short { length plan.now ≤ 32 }
-    requires callable { F.IsAlwaysCallable test.now }
-    ensures { (passes : ℕ → Bool) → ((o : ℕ) (b : Bool) → F.post test.now o b → b ≡ passes o) → result ≡ count passes (offsets plan.now) }
+fn count_offsets<A: Address, F: Fn(u32) -> bool>(plan: &Plan<A>, test: &F) -> usize
+    requires { F.IsAlwaysCallable test.now }
+    ensures { (passes : ℕ → Bool) → ((o : ℕ) (b : Bool) → F.post test.now o b → b ≡ passes o) → result ≡ count passes (offsets (strides_of plan.now)) }
 {
     let mut offset: u32 = 0;
     let mut nodes: usize = 0;
-    for stride in plan {
+    for stride in plan.strides() {
         if test(offset) {
             nodes += 1;
         }
@@ -64,11 +63,10 @@ fn count_offsets<F: Fn(u32) -> bool>(plan: &[u8], test: &F) -> usize
 // How many of the nodes on the way to a prefix the routes do not require.
 pub(crate) fn missing_nodes<A: Address>(
     routes: &RouteSet<A>,
-    plan: &[u8],
+    plan: &Plan<A>,
     prefix: &Prefix<A>,
 ) -> usize
-    requires { length plan.now ≤ 32 }
-    ensures { result ≡ count (missing routes.now.routes (A.Address.bits prefix.now.address) prefix.now.length) (offsets plan.now) }
+    ensures { result ≡ count (missing routes.now.routes (A.Address.bits prefix.now.address) prefix.now.length) (offsets (strides_of plan.now)) }
 {
     count_offsets(
         plan,
@@ -77,9 +75,8 @@ pub(crate) fn missing_nodes<A: Address>(
 }
 
 // How many of the nodes that the routes require lie on the way of an address.
-pub(crate) fn path_nodes<A: Address>(routes: &RouteSet<A>, plan: &[u8], address: &A) -> usize
-    requires { length plan.now ≤ 32 }
-    ensures { result ≡ count (needed routes.now.routes (A.Address.bits address.now)) (offsets plan.now) }
+pub(crate) fn path_nodes<A: Address>(routes: &RouteSet<A>, plan: &Plan<A>, address: &A) -> usize
+    ensures { result ≡ count (needed routes.now.routes (A.Address.bits address.now)) (offsets (strides_of plan.now)) }
 {
     count_offsets(plan, &|offset| needs(routes, address, offset))
 }

@@ -1,3 +1,2 @@
-mod Strides
 mod Finds
 mod Longest

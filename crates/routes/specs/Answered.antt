@@ -1,6 +1,5 @@
--- The plain list that a plan and routes stand for, and what the result of a call that needs memory says.
-use Rattle.std.specs.Prelude.{◌≡◌, ℕ, true, Option, Some, None, Ok, Err, Result, Vec, vec_items}
-use Rattle.std.specs.declared.alloc.Global.{Global}
+-- The plain list that a plan's strides and routes stand for, and what the result of a call that needs memory says.
+use Rattle.std.specs.Prelude.{◌≡◌, ℕ, true, List, Option, Some, None, Ok, Err, Result}
 use Rattle.faults.specs.Numbers.{number_of}
 use Rattle.model.specs.Calls.{Plain, shut, holding}
 use Rattle.model.specs.Outcomes.{Outcome, granted, refused, is_granted}
@@ -9,9 +8,9 @@ use Rattle.routes.specs.declared.failure.Failure.{Failure}
 use Rattle.routes.specs.declared.failure.Failure.TheVariants.{Refused, NoMemory}
 
 -- shut while there is no plan
-abbrev pub planned : Option (Vec ℕ Global) → Routes → Plain
+abbrev pub planned : Option (List ℕ) → Routes → Plain
 planned None routes = shut
-planned (Some plan) routes = holding (vec_items plan) routes
+planned (Some strides) routes = holding strides routes
 
 module _ {T : Type 0} where
   -- A result says what the call comes to in the model. Want of memory is answered only where the model grants the call.

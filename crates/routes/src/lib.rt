@@ -1,4 +1,4 @@
-//! Routes, ascending sets of them, and what is asked of a plan.
+//! Routes, and ascending sets of them.
 #![tactic(auto)]
 
 ghost use Rattle.std.specs.Prelude.{◌≡◌, ◌≤◌, ⊤};
@@ -10,7 +10,6 @@ use std::alloc::AllocError;
 
 pub mod admit;
 pub mod failure;
-pub mod plans;
 pub mod set;
 
 /// The largest hop.

@@ -47,6 +47,7 @@ fn last_match<'a, A: Address>(routes: &'a [Route<A>], address: &A) -> Option<&'a
     routes.iter().rfind(|route| route.prefix.matches(address))
 }
 
+// What a contract sees of a set is a value; so that the routes are in order is said where they are given or changed, for what stands on a set.
 impl<A: Address> RouteSet<A> {
     /// No routes.
     pub fn new(heap: Global) -> RouteSet<A>
@@ -90,7 +91,7 @@ impl<A: Address> RouteSet<A> {
         }
     }
 
-    /// Puts in a route or replaces its hop, and answers the old hop or none. For want of memory nothing changes.
+    /// Puts in a route or replaces its hop, and answers the old hop or none. For want of memory the routes stay as they were.
     pub fn put(&mut self, route: Route<A>) -> Result<Option<u16>, AllocError>
         ensures answer { MatchResult result (λ old. old ≡ find self.old.routes (prefix_bits A.Address.bits route.prefix)) (λ _. self.old.room ≤ length self.old.routes) }
         ensures after { self.new.routes ≡ (if is_ok result then put self.old.routes (prefix_bits A.Address.bits route.prefix) route.hop else self.old.routes) }

@@ -8,4 +8,4 @@ invariant-loop-stride g l =
     (l.offset ≤ 255 * l.stride-index)
     × (l.nodes ≤ l.stride-index)
     × ((passes : ℕ → Bool) → ((o : ℕ) (b : Bool) → goal.F-post g l.test o b → b ≡ passes o)
-    → count passes (offsets l.plan) ≡ l.nodes + count passes (offsets_from l.offset (drop l.stride-index l.plan)))
+    → count passes (offsets l.stride-items) ≡ l.nodes + count passes (offsets_from l.offset (drop l.stride-index l.stride-items)))

@@ -2,8 +2,8 @@ use Rattle.std.proofs.Common.{◌≡◌, ℕ, ◌+◌, ◌≤◌, eqb, length, s
 use Rattle.std.proofs.lemmas.List.{drop_all}
 use Rattle.std.proofs.lemmas.Bool.{eqb-true, eqb-false}
 use Rattle.model.specs.Plans.{sum, in_range}
-use Rattle.routes.proofs.Strides.{one_above, plan_size, plan_range, plan_sum, range_stop, range_more, sum_more}
-use Rattle.routes.proofs.plans.is_plan.Goals as goal
+use Rattle.plan.proofs.Strides.{one_above, plan_size, plan_range, plan_sum, range_stop, range_more, sum_more}
+use Rattle.plan.proofs.is_plan.Goals as goal
 
 pub returns-then-is_empty : goal.returns-then-is_empty
 returns-then-is_empty c =

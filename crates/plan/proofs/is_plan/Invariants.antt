@@ -1,6 +1,6 @@
 use Rattle.std.proofs.Common.{◌≡◌, ◌+◌, ◌*◌, ◌≤◌, drop}
 use Rattle.model.specs.Plans.{sum, in_range}
-use Rattle.routes.proofs.plans.is_plan.Given as goal
+use Rattle.plan.proofs.is_plan.Given as goal
 
 abbrev pub invariant-loop-i : goal.invariant-loop-i
 invariant-loop-i l =
