@@ -98,7 +98,7 @@ fn matched<A: AddressText>(
     })
 }
 
-// Every route, the smallest first, and how many they are.
+// Every route, the smallest first, and how many they are: counted while they are written, since the count stands in front of them.
 fn all_routes<A: AddressText>(heap: Global, list: &RouteList<A>) -> Result<String, Failure> {
     let mut lines = String::new(heap);
     let mut count: u64 = 0;

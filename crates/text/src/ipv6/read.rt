@@ -29,7 +29,7 @@ fn read_word(text: &[u8]) -> Result<u16, Unreadable>
     Ok(number)
 }
 
-// Groups that were read, the first the most significant of the number.
+// Groups that were read, the first the most significant of the number; how many they are does not show in it where the first are 0.
 #[derive(Clone, Copy)]
 struct Side {
     number: u128,
