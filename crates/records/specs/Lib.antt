@@ -1,0 +1,3 @@
+pub mod Held
+pub mod Beside
+pub mod Kept
