@@ -1,0 +1,4 @@
+pub mod Field
+pub mod Layout
+pub mod Beside
+pub mod Filled
