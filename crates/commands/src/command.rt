@@ -1,3 +1,6 @@
+ghost use Rattle.std.specs.Prelude.{◌≡◌};
+ghost use Rattle.commands.specs.declared.command.Trouble.TheVariants.{Misread, NoMemory};
+
 use crate::kind::Kind;
 use crate::reply::Misread;
 use crate::words::{Word, Words};
@@ -57,12 +60,16 @@ pub(crate) enum Trouble {
 }
 
 impl From<Misread> for Trouble {
+    ghost from_gives = { λ misread trouble. trouble ≡ Misread misread };
+
     fn from(misread: Misread) -> Trouble {
         Trouble::Misread(misread)
     }
 }
 
 impl From<AllocError> for Trouble {
+    ghost from_gives = { λ _ trouble. trouble ≡ NoMemory };
+
     fn from(_e: AllocError) -> Trouble {
         Trouble::NoMemory
     }
