@@ -5,6 +5,7 @@ use Rattle.std.proofs.Math.ListN.{get_or}
 use Rattle.std.proofs.lemmas.List.{length-set, get_or-set_same, get_or-set_other}
 use Rattle.std.proofs.lemmas.Bool.{cases_eq, cases_order, cond-true, cond-false, and_parts, and_from, and_left, and_right, eqb-true, eq-eqb, ne_eqb, ltb-true, leb-true, false≢true}
 use Rattle.nodes.specs.Fields.{most_nodes, changed, changed_at, with_bitmap, with_count, with_child, with_hop, after_bitmap, after_count, after_child, after_hop, is_node, is_child, is_hop, fits_bitmap, fits_count, fits_child, fits_hop}
+use Rattle.nodes.proofs.Guards.{guarded, left}
 use Rattle.fields.specs.Field.{field, with_field}
 use Rattle.fields.specs.Layout.{Place, child_place, count_place, hop_place, size_of, word_at, set_word, read_at, put_at, nodes_of, words_after_bitmap, words_after_count, words_after_child, words_after_hop}
 use Rattle.fields.proofs.Fields.{get_put, get_other}
@@ -12,17 +13,6 @@ use Rattle.fields.proofs.Fields.{get_put, get_other}
 -- two fields lie in different words, or in different bits of one
 pub Apart : Place → Place → Type 0
 Apart p q = (p.word ≡ q.word) → (p.shift + p.width ≤ q.shift) ⊎ (q.shift + q.width ≤ p.shift)
-
--- what reads 0 outside a guard, and is changed at one place inside
-guarded : (g b : Bool) (x y v : ℕ) → (g ≡ true → x ≡ cond b v y) → (b ≡ true → g ≡ true) → cond g x 0 ≡ cond b v (cond g y 0)
-guarded true b x y v h k = h refl
-guarded false true x y v h k = absurd (false≢true (k refl))
-guarded false false x y v h k = refl
-
--- and what is left inside
-left : (g : Bool) (x y : ℕ) → (g ≡ true → x ≡ y) → cond g x 0 ≡ cond g y 0
-left true x y h = h refl
-left false x y h = refl
 
 -- ---- one word of one node is changed
 module _ (words : List ℕ) (n w new : ℕ) (hn : n < size_of words) (hw : w < 36) where

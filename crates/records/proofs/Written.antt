@@ -8,14 +8,9 @@ use Rattle.bits.proofs.Orders.{decided, holds, fails}
 use Rattle.model.specs.Nodes.{Nodes}
 use Rattle.model.specs.Routes.{last_hop}
 use Rattle.nodes.specs.Fields.{after_child, after_hop, changed_at, is_child, is_hop, is_node, fits_child, fits_hop, most_nodes, with_child, with_hop}
+use Rattle.nodes.proofs.Guards.{guarded}
 use Rattle.records.specs.Held.{blank, nodes_of, record_at, size_of}
 use Rattle.records.specs.declared.Record.{Record}
-
--- a value behind a guard, where it changes within the guard alone
-guarded : (g b : Bool) (x y v : ℕ) → (g ≡ true → x ≡ cond b v y) → (b ≡ true → g ≡ true) → cond g x 0 ≡ cond b v (cond g y 0)
-guarded true b x y v h k = h refl
-guarded false true x y v h k = let wrong = k refl in cc
-guarded false false x y v h k = refl
 
 -- both tests of a place pass only there
 module _ (k j n i : ℕ) (e : (eqb k n && eqb j i) ≡ true) where
