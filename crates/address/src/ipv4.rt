@@ -60,13 +60,21 @@ impl Address for Ipv4 {
         Ipv4 { bits: 0 }
     }
 
+    // Not by its row: a word of half the size is enough, and each step of a lookup reads a group.
     fn group(&self, place: u32, len: u32) -> u8 {
-        self.row().group(place, len)
+        let word = u64::from(self.bits) << 32 << place.min(32);
+        (word >> 58 >> (6 - len.min(6))) as u8
     }
 
     fn with_group(self, place: u32, len: u32, value: u8) -> Self {
         Ipv4 {
             bits: self.row().with_group(place, len, value).number as u32,
+        }
+    }
+
+    fn first_bits(self, len: u32) -> Self {
+        Ipv4 {
+            bits: self.row().first_bits(len).number as u32,
         }
     }
 

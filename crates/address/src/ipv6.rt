@@ -72,6 +72,10 @@ impl Address for Ipv6 {
         Ipv6::from(self.row().with_group(place, len, value).number)
     }
 
+    fn first_bits(self, len: u32) -> Self {
+        Ipv6::from(self.row().first_bits(len).number)
+    }
+
     fn clear_from(&self, place: u32) -> bool {
         self.row().is_clear(place)
     }

@@ -1,8 +1,8 @@
 //! Addresses: rows of bits of a fixed width, the most significant first. Two kinds, and prefixes of either.
 #![tactic(auto)]
 
-ghost use Rattle.std.specs.Prelude.{◌≡◌, ℕ, ◌+◌, ◌%◌, ◌^◌, ◌≤◌, min, Bool, false, List, length, drop, replicate};
-ghost use Rattle.bits.specs.Rows.{read_group, write_group, clear};
+ghost use Rattle.std.specs.Prelude.{◌≡◌, ℕ, ◌+◌, ◌%◌, ◌^◌, ◌≤◌, min, Bool, false, List, length, take, drop, replicate};
+ghost use Rattle.bits.specs.Rows.{read_group, write_group, clear, padded};
 ghost use Rattle.bits.specs.Order.{order};
 
 use std::cmp::Ordering;
@@ -41,6 +41,10 @@ pub trait Address: Copy {
     /// The address with the low `len` bits of `value` written from `place`, at most 6 of them; what falls behind the last bit is dropped.
     fn with_group(self, place: u32, len: u32, value: u8) -> Self
         ensures { bits result ≡ write_group (bits self) place len value };
+
+    /// The address with its first `len` bits, and 0 behind them.
+    fn first_bits(self, len: u32) -> Self
+        ensures { bits result ≡ padded WIDTH (take len (bits self)) };
 
     /// Whether all bits from `place` on are 0.
     fn clear_from(&self, place: u32) -> bool

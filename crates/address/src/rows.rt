@@ -1,5 +1,5 @@
-ghost use Rattle.std.specs.Prelude.{◌≡◌, ◌^◌, ◌<◌, ◌≤◌, min, drop};
-ghost use Rattle.bits.specs.Rows.{row, read_group, write_group, clear, top};
+ghost use Rattle.std.specs.Prelude.{◌≡◌, ◌^◌, ◌<◌, ◌≤◌, min, take, drop};
+ghost use Rattle.bits.specs.Rows.{row, read_group, write_group, clear, padded, top};
 ghost use Rattle.bits.specs.Order.{order};
 
 use std::cmp::Ordering;
@@ -46,6 +46,18 @@ impl<const N: u32> Row<N> {
         let head = v >> behind >> kept;
         let rest = v % (1 << behind);
         let number = (((head << kept) | low as u128) << behind) | rest;
+        Row { number }
+    }
+
+    // The row with its first bits, and 0 behind them.
+    pub fn first_bits(&self, len: u32) -> Row<N>
+        ensures { row N result.number ≡ padded N (take len (row N self.now.number)) }
+    {
+        if len >= N {
+            return *self;
+        }
+        let behind = N - 1 - len;
+        let number = self.number >> behind >> 1 << 1 << behind;
         Row { number }
     }
 

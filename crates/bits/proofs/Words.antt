@@ -1,11 +1,14 @@
 -- Shifts in a word of D bits, as reads and writes of a row of w bits.
-use Rattle.std.proofs.Common.{◌≡◌, ℕ, ◌+◌, ◌-◌, ◌*◌, ◌/◌, ◌%◌, ◌^◌, ◌<◌, ◌≤◌, min, false, eqb, ◌⊎◌, inl, inr, ◌++◌, length, take, drop, replicate, sym, refl, ap, ◌∙◌, subst, mul_assoc, ap₂, ⊎_elim, mod-lt, arith, pow_pos, pow-add, shr-shr, shr_lt}
+use Rattle.std.proofs.Common.{◌≡◌, ℕ, ◌+◌, ◌-◌, ◌*◌, ◌/◌, ◌%◌, ◌^◌, ◌<◌, ◌≤◌, min, false, eqb, ◌⊎◌, inl, inr, ◌++◌, length, take, drop, replicate, sym, refl, ap, ◌∙◌, subst, mul_assoc, ap₂, ⊎_elim, mod-lt, arith, take_all, pow_pos, pow-add, shr-shr, shr_lt}
 use lib.Arith.{digits_lt}
+use lib.ListN.{length-replicate}
+use Rattle.std.proofs.Math.Pow.{shl_lt}
 use lib.Bits.{bit_or}
 use Rattle.std.proofs.lemmas.Nat.{or_shifted, shl_whole, one_shl}
 use Rattle.std.proofs.lemmas.Bool.{cases_lt}
-use Rattle.bits.specs.Rows.{number, row, read_group, write_group, clear, top}
-use Rattle.bits.proofs.Rows.{length_row, read_row, Parts, write_row}
+use Rattle.bits.specs.Rows.{number, row, read_group, write_group, clear, padded, top}
+use Rattle.bits.proofs.Rows.{length_row, read_row, row_shl, take_row, Parts, write_row}
+use Rattle.bits.proofs.Padded.{padded_split}
 use Rattle.bits.proofs.Groups.{clear_row, clear_behind, read_behind}
 
 -- a group is read from the top of the word
@@ -131,3 +134,47 @@ module _ (D w p k n v value len : ℕ) (fits : w ≤ D) (inside : p < w) (some :
   write_word_lt =
       subst (λ i. write_word D k s n v value < 2 ^ i) hw
       (subst (λ y. y < 2 ^ (p + k + s)) (sym (packed D p k s v x room some' hv' low_lt)) (packed_lt D p k s v x room some' hv' low_lt))
+
+-- ---- the first bits of a row
+
+-- of a row of l + b bits the last b cleared, by a shift down and one up
+pub first_row : (l b v : ℕ) → row (l + b) (v / 2 ^ b * 2 ^ b) ≡ padded (l + b) (take l (row (l + b) v))
+first_row l b v =
+    let x = row l (v / 2 ^ b) in
+    row_shl l b (v / 2 ^ b)
+    ∙ ap (λ r. x ++ r) (sym (take_all b (replicate b false) (let s = length-replicate b false in omega arith)))
+    ∙ sym (padded_split x b)
+    ∙ ap (λ k. padded (k + b) x) (length_row l (v / 2 ^ b))
+    ∙ ap (padded (l + b)) (sym (take_row l b v))
+
+-- in a word of D bits, the shifts in two steps each
+module _ (D w len v : ℕ) (fits : w ≤ D) (inside : len < w) (hv : v < 2 ^ w) where
+  abbrev pub first_word : ℕ
+  first_word = ((v / 2 ^ (w - 1 - len) / 2 ^ 1 * 2 ^ 1) % 2 ^ D * 2 ^ (w - 1 - len)) % 2 ^ D
+
+  pub first_word_is : first_word ≡ v / 2 ^ (w - len) * 2 ^ (w - len)
+  first_word_is =
+      let k = w - 1 - len in
+      let e : k + 1 ≡ w - len = omega arith in
+      let whole : w - len + len ≡ w = omega arith in
+      let down : v / 2 ^ k / 2 ^ 1 ≡ v / 2 ^ (w - len) = shr-shr v k 1 ∙ ap (λ i. v / 2 ^ i) e in
+      let small : v / 2 ^ (w - len) < 2 ^ len = shr_lt len (w - len) (subst (λ i. v < 2 ^ i) (sym (omega arith)) hv) in
+      ap (λ x. ((x * 2 ^ 1) % 2 ^ D * 2 ^ k) % 2 ^ D) down
+      ∙ ap (λ x. (x * 2 ^ k) % 2 ^ D) (shl_whole (v / 2 ^ (w - len)) len 1 D small (omega arith))
+      ∙ shl_whole (v / 2 ^ (w - len) * 2 ^ 1) (len + 1) k D (subst (λ y. v / 2 ^ (w - len) * 2 ^ 1 < y) (sym (pow-add 2 len 1)) (omega (arith, small))) (omega arith)
+      ∙ mul_assoc (v / 2 ^ (w - len)) (2 ^ 1) (2 ^ k)
+      ∙ ap (λ y. v / 2 ^ (w - len) * y) (sym (pow-add 2 1 k) ∙ ap (λ i. 2 ^ i) (omega arith))
+
+  pub first_word_row : row w first_word ≡ padded w (take len (row w v))
+  first_word_row =
+      let e : len + (w - len) ≡ w = omega arith in
+      ap (row w) first_word_is
+      ∙ ap (λ i. row i (v / 2 ^ (w - len) * 2 ^ (w - len))) (sym e)
+      ∙ first_row len (w - len) v
+      ∙ ap (λ i. padded i (take len (row i v))) e
+
+  pub first_word_lt : first_word < 2 ^ w
+  first_word_lt =
+      subst (λ x. x < 2 ^ w) (sym first_word_is)
+      (subst (λ i. v / 2 ^ (w - len) * 2 ^ (w - len) < 2 ^ i) (omega arith)
+      (shl_lt len (w - len) (shr_lt len (w - len) (subst (λ i. v < 2 ^ i) (sym (omega arith)) hv))))
