@@ -1,3 +1,4 @@
 mod Steps
 mod Table
 mod Matches
+pub mod Marked

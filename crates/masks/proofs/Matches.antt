@@ -7,10 +7,10 @@ use Rattle.std.specs.Int.{bit_at}
 use Rattle.std.specs.Option.{option_map}
 use Rattle.std.specs.Prelude.{◌↔◌, IsTrue}
 use Rattle.model.specs.Nodes.{marked, deepest}
-use Rattle.masks.specs.Ways.{OnTheWay, NoneMarked, Highest}
+use Rattle.masks.specs.Ways.{OnTheWay, NoneMarked, Highest, HighestBit}
 use Rattle.masks.proofs.Steps.{halved, itself, further, not_above, first_step}
 
-is_bit : (v k : ℕ) → marked v k ≡ true → bit_at v k ≡ 1
+pub is_bit : (v k : ℕ) → marked v k ≡ true → bit_at v k ≡ 1
 unfolding marked
 is_bit v k h = eqb-true (bit_at v k) 1 h
 
@@ -26,6 +26,19 @@ no_bit v k h = ne_eqb (bit_at v k) 1 (λ e. omega arith)
 pub nothing : (v : ℕ) (o : Option ℕ) → v ≡ 0 → IfSome o (λ p. 2 ^ p ≤ v) → o ≡ None
 nothing v None e least = refl
 nothing v (Some p) e least = absurd (let o = one-le-pow p 2 (omega arith) in omega arith)
+
+-- each number has a highest bit, unless it is 0
+pub highest_bit : (n v : ℕ) → v < 2 ^ n → (o : Option ℕ) × HighestBit v o × IfSome o (λ p. p < n)
+highest_bit zero v h = (None, omega arith, tt)
+highest_bit (suc n) v h =
+    ⊎_elim
+    (λ lt. let rest = highest_bit n v lt in (rest.0, rest.1, more rest.0 rest.2))
+    (λ ge. let d = pow-suc 2 n in (Some n, (omega arith, omega arith), omega arith))
+    (cases_lt v (2 ^ n))
+  where
+    more : (o : Option ℕ) → IfSome o (λ p. p < n) → IfSome o (λ p. p < suc n)
+    more None l = tt
+    more (Some p) l = omega arith
 
 -- a bitmap, and the mask of a position i below 64
 module _ (bitmap mask i : ℕ) (inside : i < 64) (masks : (k : ℕ) → k < 64 → IsTrue (marked mask k) ↔ OnTheWay k i) where
@@ -62,6 +75,10 @@ module _ (bitmap mask i : ℕ) (inside : i < 64) (masks : (k : ℕ) → k < 64 �
       → MatchOption o (NoneMarked bitmap i) (Highest bitmap i)
   found_match None none least most low = none_marked none
   found_match (Some p) none least most low = highest_marked p low least most
+
+  pub found_bit : (o : Option ℕ) → HighestBit seen o → IfSome o (λ p. p < 64) → MatchOption o (NoneMarked bitmap i) (Highest bitmap i)
+  found_bit None none low = none_marked none
+  found_bit (Some p) top low = highest_marked p low top.0 top.1
 
 -- ---- the model's longest match
 
@@ -116,3 +133,7 @@ module _ (bitmap : ℕ) where
   is_deepest s i (Some p) top a b =
       let d = some_deepest s i p (long_enough s i a) b top in
       ap Some d.3 ∙ sym (ap (option_map (λ more. i / 2 ^ (s - 1 - more))) d.1)
+
+-- nothing is marked above the last position
+pub no_bit_above : (bitmap k : ℕ) → bitmap < 2 ^ 64 → 64 ≤ k → marked bitmap k ≡ false
+no_bit_above bitmap k small h = no_bit bitmap k (bit_at_above bitmap 64 k small h)

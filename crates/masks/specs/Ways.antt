@@ -1,5 +1,5 @@
 -- The positions on the way to a position of a node: the position itself, half of it, half of that, and so on to 1. A table of masks marks them.
-use Rattle.std.specs.Prelude.{◌≡◌, ℕ, ◌-◌, ◌/◌, ◌^◌, ◌<◌, ◌≤◌, true, false, List, Option, ◌↔◌, IsTrue, slice_index}
+use Rattle.std.specs.Prelude.{◌≡◌, ℕ, ◌-◌, ◌*◌, ◌/◌, ◌^◌, ◌<◌, ◌≤◌, true, false, List, None, Some, Option, ◌↔◌, IsTrue, slice_index}
 use Rattle.std.specs.Option.{option_map}
 use Rattle.model.specs.Nodes.{marked, deepest}
 
@@ -24,3 +24,8 @@ pub record Highest (bitmap i p : ℕ) : Type 0 where
 -- the position that the model's longest match stands for, at a position i of s bits: the first bit of i, and as many more as match
 abbrev pub deepest_position : ℕ → ℕ → ℕ → Option ℕ
 deepest_position bitmap s i = option_map (λ more. i / 2 ^ (s - 1 - more)) (deepest bitmap s i)
+
+-- the highest bit of a number; 0 has none
+abbrev pub HighestBit : ℕ → Option ℕ → Type 0
+HighestBit v None = v ≡ 0
+HighestBit v (Some p) = (2 ^ p ≤ v) × (v < 2 * 2 ^ p)

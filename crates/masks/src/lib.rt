@@ -4,7 +4,9 @@
 #![tactic(auto)]
 
 ghost use Rattle.std.specs.Prelude.{◌≡◌, ℕ, ◌-◌, ◌^◌, ◌<◌, ◌≤◌, None, MatchOption, slice_index};
-ghost use Rattle.masks.specs.Ways.{MarksTheWays, NoneMarked, Highest, deepest_position};
+ghost use Rattle.model.specs.Nodes.{marked};
+ghost use Rattle.masks.specs.Marks as marks;
+ghost use Rattle.masks.specs.Ways.{MarksTheWays, NoneMarked, Highest, HighestBit, deepest_position};
 
 /// The mask of each position: entry `i` has the bits `i`, `i / 2`, and so on to 1, and entry 0 has none.
 pub const MASKS: [u64; 64] = [
@@ -80,6 +82,46 @@ pub fn mask(position: u8) -> u64
     ensures entry { result ≡ slice_index MASKS position }
 {
     MASKS.get(usize::from(position)).copied().unwrap_or(0)
+}
+
+/// Whether a position of a bitmap is marked; none is at a number that is no position.
+pub fn is_marked(bitmap: u64, position: u8) -> bool
+    ensures { result ≡ marked bitmap position }
+{
+    position < 64 && bitmap >> position & 1 == 1
+}
+
+/// A bitmap with a position marked; a number that is no position marks nothing.
+pub fn with_mark(bitmap: u64, position: u8) -> u64
+    ensures marks { position < 64 → result ≡ marks.with_mark bitmap position }
+    ensures outside { 64 ≤ position → result ≡ bitmap }
+{
+    if position < 64 {
+        bitmap | 1 << position
+    } else {
+        bitmap
+    }
+}
+
+/// A bitmap with a position unmarked.
+pub fn without_mark(bitmap: u64, position: u8) -> u64
+    ensures { result ≡ marks.without_mark bitmap position }
+{
+    if is_marked(bitmap, position) {
+        bitmap - (1 << position)
+    } else {
+        bitmap
+    }
+}
+
+/// The marks of a bitmap at a position and at those on the way to it. The highest of them is the longest match; who goes on to another node first
+/// need not work out which it is. There are none where the position lies in no node.
+pub fn marks_on_the_way(bitmap: u64, position: u8) -> u64
+    ensures deepest { (s : ℕ) → s ≤ 6 → 2 ^ (s - 1) ≤ position → position < 2 ^ s → HighestBit result (deepest_position bitmap s position) }
+    ensures outside { 64 ≤ position → result ≡ 0 }
+{
+    let on_the_way = mask(position);
+    bitmap & on_the_way
 }
 
 /// The highest position that is marked in a bitmap, among a position and those on the way to it; none where it lies in no node.
