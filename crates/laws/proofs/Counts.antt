@@ -185,7 +185,7 @@ fresh_absent q (x ∷ xs) R h =
           elim (decided (member x R)) [ holds e ↦ simp e rest | fails e ↦ simp (e, k) rest ])
     ]
 
-fresh_single : (p : Bits) (o : ℕ) (ss : List ℕ) (R : List Bits) → in_range ss ≡ true → Single (fresh (way (offsets_from o ss) p) R)
+pub fresh_single : (p : Bits) (o : ℕ) (ss : List ℕ) (R : List Bits) → in_range ss ≡ true → Single (fresh (way (offsets_from o ss) p) R)
 fresh_single p o [] R g = tt
 fresh_single p o (s ∷ ss) R g =
     let range = ranged s ss g in

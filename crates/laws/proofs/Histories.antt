@@ -17,7 +17,7 @@ use Rattle.model.specs.Sheets.{Sheet, last_number, sheet_bytes}
 
 -- ---- routes in range stay so
 
-put_ranged : (W : ℕ) (rs : Routes) (p : Bits) (h : ℕ) → InRange W rs → length p ≤ W → h ≤ last_hop → InRange W (put rs p h)
+pub put_ranged : (W : ℕ) (rs : Routes) (p : Bits) (h : ℕ) → InRange W rs → length p ≤ W → h ≤ last_hop → InRange W (put rs p h)
 put_ranged W [] p h i l m = (l, m, tt)
 put_ranged W (r ∷ rs) p h i l m = elim (compared p r.prefix) [
   | less e ↦ simp e (l, m, i)
@@ -25,7 +25,7 @@ put_ranged W (r ∷ rs) p h i l m = elim (compared p r.prefix) [
   | greater e ↦ simp e (i.0, i.1, put_ranged W rs p h i.2 l m)
 ]
 
-without_ranged : (W : ℕ) (rs : Routes) (p : Bits) → InRange W rs → InRange W (without rs p)
+pub without_ranged : (W : ℕ) (rs : Routes) (p : Bits) → InRange W rs → InRange W (without rs p)
 without_ranged W [] p i = tt
 without_ranged W (r ∷ rs) p i = elim (decided (same p r.prefix)) [
   | holds e ↦ simp e (without_ranged W rs p i.2)

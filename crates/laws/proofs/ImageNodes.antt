@@ -23,7 +23,7 @@ module _ (W N : ℕ) (plan : List ℕ) (routes : Routes) (at : Placement) (can :
   nodes = image N plan routes at
 
   -- the path has a node
-  abbrev Serves : Bits → Type 0
+  abbrev pub Serves : Bits → Type 0
   Serves path = member path (paths at.used) ≡ true
 
   -- ---- the fields of the node of a path
@@ -38,7 +38,7 @@ module _ (W N : ℕ) (plan : List ℕ) (routes : Routes) (at : Placement) (can :
       simp (path_of N plan routes at sound path serves, stride_here path s ss rest)
       (hop_there path s bs routes h (ranged s ss rest.range).high)
 
-  child_here : (path bs : Bits) (s : ℕ) (ss : List ℕ) → Rest W plan (length path) (s ∷ ss) → Serves path → s ≤ length bs
+  pub child_here : (path bs : Bits) (s : ℕ) (ss : List ℕ) → Rest W plan (length path) (s ∷ ss) → Serves path → s ≤ length bs
       → nodes.child (node_at at.used path) (number (take s bs)) ≡ node_at at.used (path ++ take s bs)
   unfolding image
   child_here path bs s ss rest serves h =
@@ -72,40 +72,40 @@ module _ (W N : ℕ) (plan : List ℕ) (routes : Routes) (at : Placement) (can :
   -- ---- along the plan
 
   module _ (path bs : Bits) (s : ℕ) (ss : List ℕ) (rest : Rest W plan (length path) (s ∷ ss)) (long : s ≤ length bs) where
-    next : Bits
+    unfoldable pub next : Bits
     next = path ++ take s bs
 
-    next_length : length next ≡ length path + s
+    pub next_length : length next ≡ length path + s
     unfolding next
     next_length = length-append path (take s bs) ∙ ap (λ k. length path + k) (length-take-le s bs long)
 
-    next_rest : Rest W plan (length next) ss
+    pub next_rest : Rest W plan (length next) ss
     next_rest = subst (λ o. Rest W plan o ss) (sym next_length) (rest_next W plan (length path) s ss rest)
 
-    next_more : next ++ drop s bs ≡ path ++ bs
+    pub next_more : next ++ drop s bs ≡ path ++ bs
     unfolding next
     next_more = append_assoc path (take s bs) (drop s bs) ∙ ap (λ (x : Bits). path ++ x) (take-append-drop s bs)
 
-    next_front : take (length next) (path ++ bs) ≡ next
+    pub next_front : take (length next) (path ++ bs) ≡ next
     unfolding next
     next_front = ap (λ k. take k (path ++ bs)) next_length ∙ take-append-add path bs s
 
     next_within : length next ≤ length (path ++ bs)
     next_within = let size = next_length in let all = length-append path bs in omega arith
 
-    next_none : eqb (node_at at.used next) 0 ≡ true → member next (paths at.used) ≡ false
+    pub next_none : eqb (node_at at.used next) 0 ≡ true → member next (paths at.used) ≡ false
     next_none e =
         let size = next_length in
         let range = ranged s ss rest.range in
         node_zero N plan routes at sound (root_required plan routes) next (omega arith) e
 
-    next_serves : eqb (node_at at.used next) 0 ≡ false → Serves next
+    pub next_serves : eqb (node_at at.used next) 0 ≡ false → Serves next
     next_serves e = elim (decided (member next (paths at.used))) [
       | holds h ↦ h
       | fails h ↦ (let zero = node_none at.used next h in let wrong : eqb (node_at at.used next) 0 ≡ true = simp zero in cc)
     ]
 
-  holds_from : (ss : List ℕ) (path bs : Bits) → Rest W plan (length path) ss → Serves path
+  pub holds_from : (ss : List ℕ) (path bs : Bits) → Rest W plan (length path) ss → Serves path
       → hop_of nodes (spot nodes ss (node_at at.used path) bs) ≡ find routes (path ++ bs)
   unfolding next
   holds_from [] path bs rest serves =
@@ -128,7 +128,7 @@ module _ (W N : ℕ) (plan : List ℕ) (routes : Routes) (at : Placement) (can :
   ]
 
   -- a path with a node leads to one of the plan's strides, and is the front of a route's prefix
-  serves_leads : (q : Bits) → 1 ≤ length q → Serves q → Leads (offsets plan) routes q
+  pub serves_leads : (q : Bits) → 1 ≤ length q → Serves q → Leads (offsets plan) routes q
   serves_leads [] l h = absurd (omega arith)
   serves_leads (b ∷ q) l h = required_leads plan routes b q (sym (sound.served (b ∷ q)) ∙ h)
 
@@ -153,7 +153,7 @@ module _ (W N : ℕ) (plan : List ℕ) (routes : Routes) (at : Placement) (can :
       simp (no_stride (path ++ (b ∷ bs)) (omega arith) stride, ne_eqb (suc (length bs)) 0 (λ e. omega arith))
 
   -- no path with a node goes on from one without
-  unserved_more : (p q : Bits) (ss : List ℕ) → 1 ≤ length p → Rest W plan (length q) ss → member q (paths at.used) ≡ false
+  pub unserved_more : (p q : Bits) (ss : List ℕ) → 1 ≤ length p → Rest W plan (length q) ss → member q (paths at.used) ≡ false
       → length q ≤ length p → take (length q) p ≡ q → member p (paths at.used) ≡ false
   unserved_more p q ss some rest none l e = elim (decided (member p (paths at.used))) [
     | holds h ↦
@@ -199,7 +199,7 @@ module _ (W N : ℕ) (plan : List ℕ) (routes : Routes) (at : Placement) (can :
 
   -- ---- from the root
 
-  root_serves : Serves []
+  pub root_serves : Serves []
   root_serves = sound.served [] ∙ root_required plan routes
 
   pub holds_routes : (p : Bits) → held nodes plan p ≡ find routes p

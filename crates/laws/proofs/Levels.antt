@@ -17,7 +17,7 @@ somewhere (s ∷ ss) len h = elim (decided (ltb len s)) [
       (omega arith, omega arith, omega arith))
 ]
 
-nowhere_else : (len k : ℕ) (plan : List ℕ) → Lies plan k len → k ≡ level plan len
+pub nowhere_else : (len k : ℕ) (plan : List ℕ) → Lies plan k len → k ≡ level plan len
 nowhere_else len k [] h = absurd (not-suc-le-zero h.0)
 nowhere_else len zero (s ∷ ss) h = simp (lt-ltb len s (let c = h.2 in omega arith))
 nowhere_else len (suc k) (s ∷ ss) h =

@@ -114,7 +114,7 @@ module _ (N : ℕ) (plan : List ℕ) (routes : Routes) where
 -- ---- a delete
 
 -- a route less takes only paths on its own way
-without_ways : (os : List ℕ) (rs : Routes) (p q : Bits) → member q (way os p) ≡ false → member q (ways os rs) ≡ member q (ways os (without rs p))
+pub without_ways : (os : List ℕ) (rs : Routes) (p q : Bits) → member q (way os p) ≡ false → member q (ways os rs) ≡ member q (ways os (without rs p))
 without_ways os [] p q h = refl
 without_ways os (r ∷ rs) p q h =
     let rest = without_ways os rs p q h in

@@ -34,7 +34,7 @@ above_behind : (xs ys : Routes) (p : Bits) → Below p xs → above (xs ++ ys) p
 above_behind [] ys p b = refl
 above_behind (x ∷ xs) ys p b = simp (behind x p b.0) (above_behind xs ys p b.1)
 
-above_first : (rs : Routes) (p : Bits) → Above p rs → above rs p ≡ smallest rs
+pub above_first : (rs : Routes) (p : Bits) → Above p rs → above rs p ≡ smallest rs
 above_first [] p a = refl
 above_first (r ∷ rs) p a = simp a
 

@@ -17,7 +17,7 @@ use Rattle.model.specs.Routes.{Routes, last_hop}
 -- ---- the fields of a node in use
 
 -- no route lies at position 0
-none_at_zero : (path : Bits) (s : ℕ) (rs : Routes) → taken_at path s rs 0 ≡ false
+pub none_at_zero : (path : Bits) (s : ℕ) (rs : Routes) → taken_at path s rs 0 ≡ false
 none_at_zero path s [] = refl
 none_at_zero path s (r ∷ rs) =
     let rest = drop (length path) r.prefix in
@@ -33,13 +33,13 @@ hop_small W path s i (r ∷ rs) h = elim (decided (lies_at path s i r.prefix)) [
   | fails e ↦ simp e (hop_small W path s i rs h.2)
 ]
 
-count_small : (f : ℕ → ℕ) (k : ℕ) → count_of f k ≤ k
+pub count_small : (f : ℕ → ℕ) (k : ℕ) → count_of f k ≤ k
 count_small f zero = omega arith
 count_small f (suc k) = let rest = count_small f k in elim (decided (eqb (f k) 0)) [ holds e ↦ simp e (omega arith) | fails e ↦ simp e (omega arith) ]
 
 -- ---- the links of the free ones
 
-front_below : (N : ℕ) (free : List ℕ) → 0 < N → ((m : ℕ) → listed m free ≡ true → m < N) → front free < N
+pub front_below : (N : ℕ) (free : List ℕ) → 0 < N → ((m : ℕ) → listed m free ≡ true → m < N) → front free < N
 front_below N [] some h = some
 front_below N (m ∷ ms) some h = h m (or_left (eqb m m) (listed m ms) (eqb_self m))
 
@@ -65,7 +65,7 @@ module _ (W N : ℕ) (plan : List ℕ) (routes : Routes) (at : Placement) (can :
       let there = node_listed at.used [] (sound.served [] ∙ root_required plan routes) in
       used_below 0 (subst (λ (m : ℕ). listed m (nodes_of at.used) ≡ true) sound.root there)
 
-  node_below : (q : Bits) → node_at at.used q < N
+  pub node_below : (q : Bits) → node_at at.used q < N
   node_below q = elim (decided (member q (paths at.used))) [
     | holds e ↦ used_below (node_at at.used q) (node_listed at.used q e)
     | fails e ↦ (let none = node_none at.used q e in let some = some_node in omega arith)

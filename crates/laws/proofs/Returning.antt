@@ -15,7 +15,7 @@ use Rattle.model.specs.Required.{Single, member, way}
 
 -- ---- without the node of one path
 
-without_member : (used : List Place) (x q : Bits) → member q (paths (without_path used x)) ≡ cond (same q x) false (member q (paths used))
+pub without_member : (used : List Place) (x q : Bits) → member q (paths (without_path used x)) ≡ cond (same q x) false (member q (paths used))
 without_member [] x q = elim (decided (same q x)) [ holds e ↦ simp e | fails e ↦ simp e ]
 without_member (y ∷ ys) x q =
     let rest = without_member ys x q in
@@ -43,7 +43,7 @@ without_single (y ∷ ys) x s = elim (decided (same x y.path)) [
       simp e (without_member ys x y.path ∙ simp other s.0, without_single ys x s.1))
 ]
 
-without_node : (used : List Place) (x q : Bits) → same q x ≡ false → node_at (without_path used x) q ≡ node_at used q
+pub without_node : (used : List Place) (x q : Bits) → same q x ≡ false → node_at (without_path used x) q ≡ node_at used q
 without_node [] x q h = refl
 without_node (y ∷ ys) x q h = elim (decided (same x y.path)) [
   | holds e ↦
@@ -52,7 +52,7 @@ without_node (y ∷ ys) x q h = elim (decided (same x y.path)) [
   | fails e ↦ elim (decided (same q y.path)) [ holds k ↦ simp (e, k) | fails k ↦ simp (e, k) (without_node ys x q h) ]
 ]
 
-without_none : (used : List Place) (x : Bits) → member x (paths used) ≡ false → without_path used x ≡ used
+pub without_none : (used : List Place) (x : Bits) → member x (paths used) ≡ false → without_path used x ≡ used
 without_none [] x h = refl
 without_none (y ∷ ys) x h =
     let parts = or_parts (same x y.path) (member x (paths ys)) h in

@@ -149,7 +149,7 @@ module _ (N : ℕ) (plan : List ℕ) (routes : Routes) (at : Placement) (sound :
         once_apart 0 (nodes_of at.used) at.free sound.once
         (subst (λ n. listed n (nodes_of at.used) ≡ true) sound.root (node_listed at.used [] root_served))
 
-    free_unused : (n : ℕ) → listed n at.free ≡ true → path_at at.used n ≡ None
+    pub free_unused : (n : ℕ) → listed n at.free ≡ true → path_at at.used n ≡ None
     free_unused n h = path_none at.used n (elim (decided (listed n (nodes_of at.used))) [
       | holds e ↦ (let wrong = once_apart n (nodes_of at.used) at.free sound.once e in cc)
       | fails e ↦ e

@@ -73,7 +73,7 @@ doubled p ps xs h q = elim (decided (same q p)) [
 ]
 
 -- how many paths and nodes there are
-nodes_length : (used : List Place) → length (nodes_of used) ≡ length (paths used)
+pub nodes_length : (used : List Place) → length (nodes_of used) ≡ length (paths used)
 nodes_length [] = refl
 nodes_length (x ∷ xs) = ap suc (nodes_length xs)
 
@@ -81,7 +81,7 @@ pub more_paths : (xs ys : List Bits) → length (distinct ys) ≤ length (distin
 more_paths xs ys = let sum = paths_append xs ys in omega arith
 
 -- no fewer nodes than paths
-room : (N : ℕ) (used : List Place) (p : Bits) → Proper N (record { used = used; free = [] }) → member p (paths used) ≡ false
+pub room : (N : ℕ) (used : List Place) (p : Bits) → Proper N (record { used = used; free = [] }) → member p (paths used) ≡ false
     → length (distinct (p ∷ paths used)) ≤ N → ⊥
 room N used p is e h =
     let size = numbers_length N (nodes_of used ++ []) is.all in

@@ -57,13 +57,13 @@ unfolding Under
 under_misses p q [] h u = refl
 under_misses p q (r ∷ rs) h u = rw (u.0.1, h u.0.0) (under_misses p q rs h u.1)
 
-under_above : (p : Bits) (b : Bool) (rs : Routes) → Under (p ++ (b ∷ [])) rs → Above p rs
+pub under_above : (p : Bits) (b : Bool) (rs : Routes) → Under (p ++ (b ∷ [])) rs → Above p rs
 unfolding Under
 under_above p b [] u = tt
 under_above p b (r ∷ rs) u = rw (u.0.1, append_assoc p (b ∷ []) u.0.0) (order_extends p b u.0.0)
 
 -- those that go on with 0 stand before those that go on with 1
-halves_above : (p q : Bits) (ys : Routes) → Under (p ++ (true ∷ [])) ys → Above (p ++ (false ∷ []) ++ q) ys
+pub halves_above : (p q : Bits) (ys : Routes) → Under (p ++ (true ∷ [])) ys → Above (p ++ (false ∷ []) ++ q) ys
 unfolding Under order
 halves_above p q [] v = tt
 halves_above p q (y ∷ ys) v =

@@ -16,10 +16,10 @@ use Rattle.model.specs.Routes.{Route, Routes, find}
 abbrev pub Held : Routes → Bits → Type 0
 Held routes p = is_some (find routes p) ≡ true
 
-held_more : (r : Route) (rs : Routes) (p : Bits) → Held rs p → Held (r ∷ rs) p
+pub held_more : (r : Route) (rs : Routes) (p : Bits) → Held rs p → Held (r ∷ rs) p
 held_more r rs p h = elim (decided (same p r.prefix)) [ holds e ↦ simp e | fails e ↦ simp e h ]
 
-held_first : (r : Route) (rs : Routes) → Held (r ∷ rs) r.prefix
+pub held_first : (r : Route) (rs : Routes) → Held (r ∷ rs) r.prefix
 held_first r rs = simp (same_self r.prefix)
 
 pub held_short : (W : ℕ) (routes : Routes) (p : Bits) → InRange W routes → Held routes p → length p ≤ W

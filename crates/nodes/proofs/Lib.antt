@@ -1,1 +1,2 @@
 pub mod Guards
+pub mod Readings

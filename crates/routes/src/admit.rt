@@ -1,5 +1,6 @@
-ghost use Rattle.std.specs.Prelude.{◌≡◌, Err, MatchResult};
+ghost use Rattle.std.specs.Prelude.{◌≡◌, min, take, Err, MatchResult};
 ghost use Rattle.routes.specs.Admitted.{prefix_admitted, route_admitted};
+ghost use Rattle.routes.specs.Meant.{prefix_bits};
 
 use crate::{LAST_HOP, Route, SoundPrefix};
 use address::Address;
@@ -18,6 +19,20 @@ impl<A: Address> SoundPrefix<A> {
             return Err(Fault::of_table(Refusal::Stray));
         }
         Ok(SoundPrefix { prefix })
+    }
+
+    /// The prefix of the first bits of an address, so many, or all where it has no more.
+    pub fn of_first_bits(address: A, length: u32) -> SoundPrefix<A>
+        ensures bits { prefix_bits A.Address.bits result.prefix ≡ take length (A.Address.bits address) }
+        ensures length { result.prefix.length ≡ min length A.Address.WIDTH }
+    {
+        let length = length.min(A::WIDTH);
+        SoundPrefix {
+            prefix: Prefix {
+                address: address.first_bits(length),
+                length,
+            },
+        }
     }
 }
 
