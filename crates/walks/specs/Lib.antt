@@ -1,0 +1,4 @@
+pub mod Walks
+pub mod Trails
+pub mod Smallest
+pub mod Shows
