@@ -1,0 +1,10 @@
+pub mod Going
+pub mod Lookups
+pub mod Placing
+pub mod Passing
+pub mod Trailed
+pub mod Rows
+pub mod Entries
+pub mod Paths
+pub mod Following
+pub mod Ways

@@ -1,0 +1,4 @@
+pub mod Meant
+pub mod Steps
+pub mod Passing
+pub mod Entries
