@@ -1,0 +1,11 @@
+pub mod Marking
+pub mod Strides
+pub mod MarkedNodes
+pub mod Opening
+pub mod Ways
+pub mod Attaching
+pub mod Inserting
+pub mod Climbs
+pub mod Returning
+pub mod Counting
+pub mod Deleting
