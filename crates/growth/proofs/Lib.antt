@@ -1,0 +1,5 @@
+pub mod Openings
+pub mod Evens
+pub mod Taken
+pub mod Entered
+pub mod Returned
