@@ -1,0 +1,5 @@
+pub mod Openings
+pub mod Growing
+pub mod Steps
+pub mod Deletions
+pub mod Insertions

@@ -1,0 +1,3 @@
+pub mod Stands
+pub mod Answers
+pub mod Placed

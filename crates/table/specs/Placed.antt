@@ -1,0 +1,26 @@
+-- The placement that the rules give after a call: newly required paths take nodes from the front of the chain, the one nearest the root first, and
+-- the nodes of paths no longer required go back to it, the deepest first.
+use Rattle.std.specs.Prelude.{ℕ, cond}
+use Rattle.model.specs.Calls.{Call, Plain, counts, delete, exact, first, holding, insert, load, lookup, next, open_with, perform, shut, write}
+use Rattle.model.specs.Outcomes.{is_granted}
+use Rattle.model.specs.Placements.{Placement, after_delete, after_insert, opened_placement}
+use Rattle.model.specs.Routes.{prefix_of, without}
+
+-- after a call that is granted
+abbrev pub granted_placement : ℕ → Plain → Call → Placement → Placement
+granted_placement N plain (open_with strides) at = opened_placement N
+granted_placement N shut (insert address len hop) at = at
+granted_placement N (holding plan routes) (insert address len hop) at = after_insert plan (prefix_of address len) at
+granted_placement N shut (delete address len) at = at
+granted_placement N (holding plan routes) (delete address len) at = after_delete plan (without routes (prefix_of address len)) (prefix_of address len) at
+granted_placement N plain (lookup address) at = at
+granted_placement N plain (exact address len) at = at
+granted_placement N plain first at = at
+granted_placement N plain (next address len) at = at
+granted_placement N plain counts at = at
+granted_placement N plain (write number output) at = at
+granted_placement N plain (load message) at = at
+
+-- a refused call leaves it
+abbrev pub placed : ℕ → ℕ → Plain → Placement → Call → Placement
+placed W N plain at call = cond (is_granted (perform W N plain call)) (granted_placement N plain call at) at
