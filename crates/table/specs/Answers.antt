@@ -1,8 +1,13 @@
 -- What the answers of a table stand for.
+use Rattle.std.specs.Prelude.{ℕ, List, Some, None, Option}
 use Rattle.std.specs.Option.{option_map}
 use Rattle.address.specs.declared.Address.{Ghosts}
 use Rattle.bits.specs.Rows.{Bits}
-use Rattle.model.specs.Calls.{Answer, counted, deleted, inserted, matched}
+use Rattle.faults.specs.Numbers.{not_open}
+use Rattle.faults.specs.declared.Layer.TheVariants.{Table}
+use Rattle.model.specs.Calls.{Answer, Plain, counted, deleted, holding, inserted, matched, shut}
+use Rattle.model.specs.Outcomes.{Outcome, granted, refused}
+use Rattle.model.specs.Placements.{Placement, front}
 use Rattle.descent.specs.Meant.{held_route}
 use Rattle.descent.specs.declared.walk.Matched.{Matched}
 use Rattle.table.specs.declared.Counted.{Counted}
@@ -21,3 +26,13 @@ delete_answer x = deleted x.hop x.returned
 
 abbrev pub count_answer : Counted → Answer
 count_answer x = counted x.routes x.required x.free
+
+-- the strides of the plan of an open list
+abbrev pub plan_answer : Plain → Option (List ℕ)
+plan_answer shut = None
+plan_answer (holding plan routes) = Some plan
+
+-- the front of the chain by a placement, which a shut list has not
+abbrev pub front_answer : Plain → Placement → Outcome ℕ
+front_answer shut at = refused not_open Table 0
+front_answer (holding plan routes) at = granted (front at.free)

@@ -4,8 +4,9 @@ ghost use Rattle.model.specs.Calls as calls;
 ghost use Rattle.model.specs.Calls.{Plain, answer, hop_is, route_is};
 ghost use Rattle.model.specs.Outcomes.{outcome};
 ghost use Rattle.model.specs.Placements.{Placement};
+ghost use Rattle.plan.specs.Strides.{strides_of};
 ghost use Rattle.descent.specs.Meant.{held_route};
-ghost use Rattle.table.specs.Answers.{count_answer, match_answer};
+ghost use Rattle.table.specs.Answers.{count_answer, front_answer, match_answer, plan_answer};
 ghost use Rattle.table.specs.Stands.{Stands, Still};
 
 use crate::{Counted, Table};
@@ -14,6 +15,7 @@ use address::prefix::Prefix;
 use descent::{Held, Matched};
 use faults::{Fault, Refusal};
 use nodes::NodeWrite;
+use plan::Plan;
 use routes::SoundPrefix;
 
 impl<A: Address, M: NodeWrite> Table<A, M> {
@@ -82,5 +84,22 @@ impl<A: Address, M: NodeWrite> Table<A, M> {
             required: self.required,
             free: size.saturating_sub(self.required),
         })
+    }
+
+    /// The plan, while the table is open.
+    pub fn plan(&self) -> Option<&Plan<A>>
+        ensures { (plain : Plain) (at : Placement) → Stands M.NodeRead.nodes A.Address.WIDTH self.now plain at → option_map (λ p. strides_of p.now) result ≡ plan_answer plain }
+    {
+        self.plan.as_ref()
+    }
+
+    /// The node at the front of the chain of free nodes, 0 where it is empty.
+    pub fn front(&self) -> Result<u32, Fault>
+        ensures { (plain : Plain) (at : Placement) → Stands M.NodeRead.nodes A.Address.WIDTH self.now plain at → outcome (λ n. n) result ≡ front_answer plain at }
+    {
+        if self.plan.is_none() {
+            return Err(Fault::of_table(Refusal::Shut));
+        }
+        Ok(self.front)
     }
 }
