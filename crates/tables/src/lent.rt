@@ -1,4 +1,4 @@
-//! A memory of nodes that is lent to a table, and can be read once the table is gone.
+//! A memory of nodes that is lent to a table, and is there for another once the table is gone.
 use faults::Fault;
 use nodes::{NodeRead, NodeWrite};
 

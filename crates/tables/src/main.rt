@@ -1,13 +1,18 @@
 //! Long random histories of calls, with any arguments, put to a table over records, to one over words and to the plain list; the answers are
-//! compared call by call, refusals and numbers of nodes included. The memories hold random fields before, or what another history left. At
-//! each history's end all their fields are compared with each other, and the nodes in the tree and on the chain are counted.
+//! compared call by call, refusals and numbers of nodes included, and so are the fronts of the chains. The memories hold random fields before, or
+//! what another history left. Every so often, and at each history's end, every field of both is compared with what the routes, the plan and the
+//! rules for nodes say that it holds.
 #![tactic(auto)]
 
 mod calls;
+mod compare;
+mod image;
 mod lent;
+mod listed;
+mod placement;
 mod random;
+mod sides;
 mod tally;
-mod tree;
 mod trial;
 
 use address::ipv4::Ipv4;
@@ -26,6 +31,7 @@ const TRIALS: [Trial; 6] = [
             calls: 400,
         },
         memories: 1,
+        every: 1,
     },
     Trial {
         first: History {
@@ -34,6 +40,7 @@ const TRIALS: [Trial; 6] = [
             calls: 500,
         },
         memories: 3,
+        every: 1,
     },
     Trial {
         first: History {
@@ -42,6 +49,7 @@ const TRIALS: [Trial; 6] = [
             calls: 500,
         },
         memories: 3,
+        every: 1,
     },
     Trial {
         first: History {
@@ -50,6 +58,7 @@ const TRIALS: [Trial; 6] = [
             calls: 500,
         },
         memories: 4,
+        every: 1,
     },
     Trial {
         first: History {
@@ -58,6 +67,7 @@ const TRIALS: [Trial; 6] = [
             calls: 500,
         },
         memories: 4,
+        every: 1,
     },
     Trial {
         first: History {
@@ -66,6 +76,7 @@ const TRIALS: [Trial; 6] = [
             calls: 1_500,
         },
         memories: 1,
+        every: 4,
     },
 ];
 

@@ -11,12 +11,14 @@ struct Row {
     refused: [u32; 17],
 }
 
-// How often each came, how many nodes were required at most, how many nodes were compared, and a sum over all answers.
+// How often each came, how many nodes were required at most, how many whole memories were compared with the image and how many fields that
+// were, and a sum over all answers.
 #[derive(Clone, Copy)]
 pub(crate) struct Tally {
     rows: [Row; 8],
     pub most: usize,
-    pub compared: u32,
+    memories: u32,
+    fields: u64,
     sum: u64,
 }
 
@@ -29,8 +31,17 @@ impl Tally {
         Tally {
             rows: [row; 8],
             most: 0,
-            compared: 0,
+            memories: 0,
+            fields: 0,
             sum: 0,
+        }
+    }
+
+    // Counts two memories that were compared with the image, each of so many fields; none where the tables were shut.
+    pub(crate) fn compared(&mut self, fields: Option<u64>) {
+        if let Some(fields) = fields {
+            self.memories = self.memories.wrapping_add(2);
+            self.fields = self.fields.wrapping_add(fields.wrapping_mul(2));
         }
     }
 
@@ -57,11 +68,12 @@ impl Tally {
 impl fmt::Display for Tally {
     fn fmt<W: fmt::Write>(&self, f: &mut fmt::Formatter<W>) -> fmt::Result {
         let most = self.most;
-        let compared = self.compared;
+        let memories = self.memories;
+        let fields = self.fields;
         let sum = self.sum;
         write!(
             f,
-            "at most {most} nodes required, {compared} nodes compared, sum {sum}"
+            "at most {most} nodes required, {memories} whole memories compared with the image, {fields} fields, sum {sum}"
         )?;
         for (name, row) in NAMES.iter().zip(self.rows.iter()) {
             let granted = row.granted;
