@@ -118,6 +118,20 @@ within words = record {
   hop = λ n i e. cond-false (is_hop (nodes_of words) n i) _ 0 e;
 }
 
+-- of whatever has words: a reading leaves them, and every call leaves what is beside the nodes
+pub laws_of : {S : Type 0} (words : S → List ℕ) → Laws (λ x. nodes_of (words x)) (λ x y. words y ≡ words x) (λ x y. Beside (words x) (words y))
+laws_of words = record {
+  within = λ x. within (words x);
+  still_same = λ x. refl;
+  still_then = λ x y z p q. q ∙ p;
+  still_nodes = λ x y p. ap nodes_of p;
+  still_always = λ x y p. subst (λ l. Beside (words x) l) (sym p) (beside_same (words x));
+  always_same = λ x. beside_same (words x);
+  always_then = λ x y z p q. beside_then (words x) (words y) (words z) p q;
+  always_size = λ x y p. size_same (words y) (words x) p.long;
+}
+
+-- and where the words are lent, they are still those of the same lender
 pub laws : {S G : Type 0} (name : S → G) (words : S → List ℕ)
     → Laws (λ x. nodes_of (words x)) (λ x y. (name y ≡ name x) × (words y ≡ words x)) (λ x y. (name y ≡ name x) × Beside (words x) (words y))
 laws name words = record {
