@@ -15,10 +15,10 @@ pub struct Buffer {
 impl NodeRead for Buffer {
     ghost use Rattle.std.specs.Prelude.{◌≡◌};
     ghost use Rattle.fields.specs.Beside.{Beside};
-    ghost use Rattle.fields.specs.Layout.{nodes_of};
     ghost use Rattle.fields.proofs.Besides.{laws_of};
+    ghost use Rattle.buffer.specs.Held.{nodes_in};
 
-    ghost nodes = { λ x. nodes_of x.words.items };
+    ghost nodes = { nodes_in };
 
     ghost still = { λ x y. y.words.items ≡ x.words.items };
 

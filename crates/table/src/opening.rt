@@ -1,7 +1,8 @@
 ghost use Rattle.std.specs.Prelude.{◌≡◌, [], IfErr, IfOk};
-ghost use Rattle.model.specs.Calls.{Plain, answer, holding, open_with, opened, shut};
+ghost use Rattle.model.specs.Calls.{Plain, after, answer, holding, open_with, opened, shut};
 ghost use Rattle.model.specs.Outcomes.{outcome};
 ghost use Rattle.model.specs.Placements.{Placement, opened_placement};
+ghost use Rattle.table.specs.Placed.{placed};
 ghost use Rattle.table.specs.Stands.{Stands, Still};
 
 use crate::Table;
@@ -30,6 +31,7 @@ impl<A: Address, M: NodeWrite> Table<A, M> {
     pub fn open(&mut self, strides: &[u8]) -> Result<(), Fault>
         ensures answer { (plain : Plain) → outcome (λ _. opened) result ≡ answer A.Address.WIDTH (M.NodeRead.nodes self.old.memory).size plain (open_with strides.now) }
         ensures opened { IfOk result (λ _. Stands M.NodeRead.nodes A.Address.WIDTH self.new (holding strides.now []) (opened_placement (M.NodeRead.nodes self.old.memory).size)) }
+        ensures after { (plain : Plain) (at : Placement) → Stands M.NodeRead.nodes A.Address.WIDTH self.old plain at → Stands M.NodeRead.nodes A.Address.WIDTH self.new (after A.Address.WIDTH (M.NodeRead.nodes self.old.memory).size plain (open_with strides.now)) (placed A.Address.WIDTH (M.NodeRead.nodes self.old.memory).size plain at (open_with strides.now)) }
         ensures refused { IfErr result (λ _. Still M.NodeRead.still self.old self.new) }
         ensures always { M.NodeRead.always self.old.memory self.new.memory }
     {
