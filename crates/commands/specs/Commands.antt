@@ -3,7 +3,7 @@ use Rattle.std.specs.Prelude.{ℕ, List, vec_items}
 use Rattle.bits.specs.Rows.{Bits}
 use Rattle.model.specs.Outcomes.{Outcome, granted, refused}
 use Rattle.model.specs.Calls.{Call, Answer, open_with, insert, delete, answer, after, shut}
-use Rattle.commands.specs.Stands.{Standing}
+use Rattle.commands.specs.Stands.{Standing, memory_of}
 use Rattle.commands.specs.declared.command.Command.{Command}
 use Rattle.commands.specs.declared.command.Command.TheVariants.{Kind, Open, Insert, Delete, Lookup, Exact, First, Next, Counts, List as ListAll, Help}
 
@@ -11,9 +11,9 @@ use Rattle.commands.specs.declared.command.Command.TheVariants.{Kind, Open, Inse
 abbrev pub left_after : ℕ → Call → Standing → Standing
 left_after W call s = record { nodes = s.nodes; plain = after W s.nodes s.plain call }
 
--- a shut list for so many nodes, once it is opened
+-- a shut list for a memory of so many nodes, once it is opened
 abbrev pub newly_open : ℕ → ℕ → List ℕ → Standing
-newly_open W nodes strides = left_after W (open_with strides) (record { nodes = nodes; plain = shut })
+newly_open W nodes strides = left_after W (open_with strides) (record { nodes = memory_of nodes; plain = shut })
 
 -- a new list where a call is granted, and else the one that was there
 abbrev pub replaced : Outcome Answer → Standing → Standing → Standing
@@ -22,7 +22,7 @@ replaced (refused number layer place) new s = s
 
 -- opening puts a newly open list in the place of what was there, unless that is refused
 abbrev pub opened_by : ℕ → ℕ → List ℕ → Standing → Standing
-opened_by W nodes strides s = replaced (answer W nodes shut (open_with strides)) (newly_open W nodes strides) s
+opened_by W nodes strides s = replaced (answer W (memory_of nodes) shut (open_with strides)) (newly_open W nodes strides) s
 
 -- opening, insert and delete do what the plain list's calls do, and no other command changes anything
 abbrev pub commanded : {X : Type 0} → ℕ → (X → Bits) → Command X → Standing → Standing

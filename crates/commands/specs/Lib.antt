@@ -7,3 +7,4 @@ pub mod Stands
 pub mod Commands
 pub mod Words
 pub mod Replies
+pub mod Switching

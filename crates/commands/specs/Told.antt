@@ -7,6 +7,8 @@ use Rattle.commands.specs.Kinds.{kind_name}
 use Rattle.commands.specs.declared.answers.RouteText.{RouteText}
 use Rattle.commands.specs.declared.reply.Misread.{Misread}
 use Rattle.commands.specs.declared.reply.Reply.{Reply}
+use Rattle.commands.specs.declared.reply.Stop.{Stop}
+use Rattle.commands.specs.declared.reply.Stop.TheVariants.{NoMemory, Differ}
 use Rattle.commands.specs.declared.reply.Reply.TheVariants.{Silence, Remark, Answered, Refused, Misread as NotRead, Switched}
 
 -- what was expected, and where it was missed
@@ -88,3 +90,8 @@ reply_told (Answered text) = string_bytes text
 reply_told (Refused text) = string_bytes text
 reply_told (NotRead line misread) = codes "line " ++ (decimal line ++ (codes ": " ++ misread_told misread))
 reply_told (Switched kind) = codes "kind " ++ (kind_name kind ++ codes ": shut")
+
+-- what is printed where a line has no reply
+abbrev pub stop_told : Stop → List ℕ
+stop_told NoMemory = codes "no memory"
+stop_told Differ = codes "an error of the engine: table and list differ"

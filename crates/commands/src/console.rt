@@ -1,28 +1,33 @@
 ghost use Rattle.std.specs.Prelude.{◌≡◌, IfOk};
 ghost use Rattle.commands.specs.Counted.{counted};
+ghost use Rattle.commands.specs.Replies.{Undisputed};
+ghost use Rattle.commands.specs.Switching.{BothAgree};
 
 use crate::kind::Kind;
-use crate::reply::{NoMemory, Reply};
-use crate::session::answer;
+use crate::reply::{Reply, Stop};
+use crate::session::{answer, shut_pair};
 use crate::summary::Summary;
 use address::ipv4::Ipv4;
 use address::ipv6::Ipv6;
-use reference::RouteList;
+use buffer::Buffer;
+use pair::Pair;
 use std::alloc::Global;
 
-// The routes of the kind of address that is in use.
+// The engines for the kind of address that is in use.
 #[derive(Drop)]
-enum Routes {
-    Ipv4(RouteList<Ipv4>),
-    Ipv6(RouteList<Ipv6>),
+pub(crate) enum Engines {
+    Ipv4(Pair<Ipv4, Buffer>),
+    Ipv6(Pair<Ipv6, Buffer>),
 }
 
-impl Routes {
-    // A list of a kind that is not yet open.
-    fn new(heap: Global, kind: Kind) -> Routes {
+impl Engines {
+    // Engines of a kind that are not yet open.
+    fn new(heap: Global, kind: Kind) -> Engines
+        ensures { BothAgree result }
+    {
         match kind {
-            Kind::Ipv4 => Routes::Ipv4(RouteList::new(heap, 0)),
-            Kind::Ipv6 => Routes::Ipv6(RouteList::new(heap, 0)),
+            Kind::Ipv4 => Engines::Ipv4(shut_pair(heap)),
+            Kind::Ipv6 => Engines::Ipv6(shut_pair(heap)),
         }
     }
 
@@ -32,19 +37,21 @@ impl Routes {
         heap: Global,
         number: u64,
         line: &'a [u8],
-    ) -> Result<Reply<'a>, NoMemory> {
+    ) -> Result<Reply<'a>, Stop>
+        ensures { BothAgree self.old → BothAgree self.new × Undisputed result }
+    {
         match self {
-            Routes::Ipv4(list) => answer(heap, list, number, line),
-            Routes::Ipv6(list) => answer(heap, list, number, line),
+            Engines::Ipv4(pair) => answer(heap, pair, number, line),
+            Engines::Ipv6(pair) => answer(heap, pair, number, line),
         }
     }
 }
 
-/// A console: the routes that its commands work on, and the count of its lines. It begins with IPv4.
+/// A console: the engines that its commands work on, and the count of its lines. It begins with IPv4.
 #[derive(Drop)]
 pub struct Console {
     heap: Global,
-    routes: Routes,
+    engines: Engines,
     /// What the lines so far came to.
     pub summary: Summary,
 }
@@ -52,24 +59,26 @@ pub struct Console {
 impl Console {
     /// A console that has read no line.
     pub fn new(heap: Global) -> Console
-        ensures { result.summary ≡ record { lines = 0; answered = 0; refused = 0; misread = 0 } }
+        ensures summary { result.summary ≡ record { lines = 0; answered = 0; refused = 0; misread = 0 } }
+        ensures agree { BothAgree result.engines }
     {
         Console {
             heap,
-            routes: Routes::new(heap, Kind::Ipv4),
+            engines: Engines::new(heap, Kind::Ipv4),
             summary: Summary::new(),
         }
     }
 
     /// Does what a line asks for, and counts it.
-    pub fn take<'a>(&mut self, line: &'a [u8]) -> Result<Reply<'a>, NoMemory>
-        ensures { IfOk result (λ reply. self.new.summary ≡ counted self.old.summary reply) }
+    pub fn take<'a>(&mut self, line: &'a [u8]) -> Result<Reply<'a>, Stop>
+        ensures summary { IfOk result (λ reply. self.new.summary ≡ counted self.old.summary reply) }
+        ensures agree { BothAgree self.old.engines → BothAgree self.new.engines × Undisputed result }
     {
         let number = self.summary.lines.saturating_add(1);
-        let reply = self.routes.answer(self.heap, number, line)?;
+        let reply = self.engines.answer(self.heap, number, line)?;
         self.summary.count(&reply);
         if let Reply::Switched(kind) = reply {
-            self.routes = Routes::new(self.heap, kind);
+            self.engines = Engines::new(self.heap, kind);
         }
         Ok(reply)
     }

@@ -1,5 +1,6 @@
-ghost use Rattle.std.specs.Prelude.{Some, codes};
-ghost use Rattle.commands.specs.Told.{misread_told, reply_told};
+ghost use Rattle.std.specs.Prelude.{◌≡◌, Some};
+ghost use Rattle.commands.specs.Told.{misread_told, reply_told, stop_told};
+ghost use Rattle.commands.specs.declared.reply.Stop.TheVariants.{NoMemory};
 
 use crate::kind::Kind;
 use std::alloc::AllocError;
@@ -54,22 +55,30 @@ impl fmt::Display for Reply<'_> {
     }
 }
 
-/// There was no memory for a reply.
+/// Why a line has no reply: there was no memory, or the table and the plain list did not come to the same, which is an error of an engine.
 #[derive(Clone, Copy, PartialEq, Eq, Debug)]
-pub struct NoMemory;
+pub enum Stop {
+    NoMemory,
+    Differ,
+}
 
-impl fmt::Display for NoMemory {
-    ghost output = { λ _. Some (codes "no memory") };
+impl fmt::Display for Stop {
+    ghost output = { λ stop. Some (stop_told stop) };
 
     fn fmt<W: fmt::Write>(&self, f: &mut fmt::Formatter<W>) -> fmt::Result {
-        f.write_str("no memory")
+        match self {
+            Stop::NoMemory => f.write_str("no memory"),
+            Stop::Differ => f.write_str("an error of the engine: table and list differ"),
+        }
     }
 }
 
-impl Error for NoMemory {}
+impl Error for Stop {}
 
-impl From<AllocError> for NoMemory {
-    fn from(_e: AllocError) -> NoMemory {
-        NoMemory
+impl From<AllocError> for Stop {
+    ghost from_gives = { λ _ r. r ≡ NoMemory };
+
+    fn from(_e: AllocError) -> Stop {
+        Stop::NoMemory
     }
 }

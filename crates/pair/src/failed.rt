@@ -1,5 +1,5 @@
 ghost use Rattle.std.specs.Prelude.{◌≡◌};
-ghost use Rattle.pair.specs.declared.failed.Failed.TheVariants.{NoMemory};
+ghost use Rattle.pair.specs.declared.failed.Failed.TheVariants.{NoMemory, Refused};
 
 use faults::Fault;
 use std::alloc::{AllocError, AllocFailed};
@@ -13,6 +13,14 @@ pub enum Failed {
     NoMemory,
     /// The two did not come to the same.
     Differ,
+}
+
+impl From<Fault> for Failed {
+    ghost from_gives = { λ f r. r ≡ Refused f };
+
+    fn from(fault: Fault) -> Failed {
+        Failed::Refused(fault)
+    }
 }
 
 // For what is made of an answer, with memory of its own.

@@ -3,5 +3,5 @@ use Rattle.commands.proofs.Made.{made_so}
 use Rattle.commands.proofs.Told.{tells_somehow}
 use Rattle.commands.proofs.session.list_all.Goals as goal
 
-pub returns : goal.returns
-returns g c = made_so c.reply.result c.reply.ensures (λ reply h. tells_somehow string_bytes (codes "list") c.all_routes.result reply h)
+pub returns-clause-told : goal.returns-clause-told
+returns-clause-told g c = made_so c.reply.result c.reply.ensures.told (λ reply h. tells_somehow string_bytes (codes "list") c.all_routes.result reply h)
