@@ -1,4 +1,4 @@
--- What was found in the words of the plain list's answers, and an answer that is told.
+-- An answer that is told.
 use Rattle.std.proofs.Common.{◌≡◌, ℕ, List, Option, Some, None, refl, subst, arith}
 use Rattle.std.specs.Prelude.{Ok, Err, Result, IfOk}
 use Rattle.std.specs.Option.{option_map}
@@ -9,19 +9,13 @@ use Rattle.routes.specs.declared.Route.{Route}
 use Rattle.pair.specs.declared.failed.Failed.{Failed}
 use Rattle.pair.specs.declared.failed.Failed.TheVariants.{Refused as WasRefused, NoMemory, Differ}
 use Rattle.routes.specs.Meant.{meant}
-use Rattle.commands.specs.Told.{found_spelled}
-use Rattle.commands.specs.Words.{FoundWords}
+use Rattle.replies.specs.Told.{found_spelled}
+use Rattle.replies.specs.Words.{FoundWords}
 use Rattle.commands.specs.Replies.{Comes, Replies, Tells, ToldSomehow}
-use Rattle.commands.specs.declared.reply.Reply.{Reply}
-use Rattle.commands.specs.declared.reply.Stop.{Stop}
+use Rattle.replies.specs.declared.reply.Reply.{Reply}
+use Rattle.replies.specs.declared.reply.Stop.{Stop}
 use Rattle.commands.proofs.Made.{made_so}
-use Rattle.commands.specs.declared.reply.Reply.TheVariants.{Silence, Remark, Answered, Refused, Misread, Switched}
-
--- the words of a route that was found are those of the route that it stands for
-pub found_words : {X : Type 0} {G : Ghosts X} (spelled : X → List ℕ) (o : Option (Route X G)) (words : List ℕ)
-    → words ≡ found_spelled spelled o → FoundWords G.bits spelled (option_map (meant G.bits) o) words
-found_words spelled None words e = e
-found_words spelled (Some r) words e = record { prefix = r.prefix; sound = r.sound; is = refl; told = e }
+use Rattle.replies.specs.declared.reply.Reply.TheVariants.{Silence, Remark, Answered, Refused, Misread, Switched}
 
 -- a reply to a result tells what the result comes to,
 pub tells : {T : Type 0} (words : T → List ℕ) (Words : Answer → List ℕ → Type 0) (asked : List ℕ) (result : Result T Failed) (o : Outcome Answer) (reply : Reply)

@@ -1,10 +1,6 @@
 pub mod Blanks
 pub mod Lines
-pub mod Kinds
-pub mod Told
-pub mod Counted
 pub mod Stands
 pub mod Commands
-pub mod Words
 pub mod Replies
 pub mod Switching

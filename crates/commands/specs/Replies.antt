@@ -8,14 +8,14 @@ use Rattle.model.specs.Outcomes.{Outcome, granted, refused, is_granted}
 use Rattle.pair.specs.declared.failed.Failed.{Failed}
 use Rattle.pair.specs.declared.failed.Failed.TheVariants.{Refused as WasRefused, NoMemory, Differ}
 use Rattle.commands.specs.Stands.{Standing, memory_of}
-use Rattle.commands.specs.Words.{OpenedWords, InsertedWords, DeletedWords, HopWords, CountedWords, RouteAnswerWords, MatchedWords}
+use Rattle.replies.specs.Words.{OpenedWords, InsertedWords, DeletedWords, HopWords, CountedWords, RouteAnswerWords, MatchedWords}
 use Rattle.commands.specs.declared.command.Command.{Command}
 use Rattle.commands.specs.declared.command.Command.TheVariants.{Kind, Open, Insert, Delete, Lookup, Exact, First, Next, Counts, List as ListAll, Help}
-use Rattle.commands.specs.declared.reply.Reply.{Reply}
-use Rattle.commands.specs.declared.reply.Stop.{Stop}
-use Rattle.commands.specs.declared.reply.Stop.TheVariants as Stopped
-use Rattle.commands.specs.declared.reply.Reply.TheVariants.{Answered, Refused, Switched}
-use Rattle.commands.specs.Told.{told, prefix_spelled, help_told}
+use Rattle.replies.specs.declared.reply.Reply.{Reply}
+use Rattle.replies.specs.declared.reply.Stop.{Stop}
+use Rattle.replies.specs.declared.reply.Stop.TheVariants as Stopped
+use Rattle.replies.specs.declared.reply.Reply.TheVariants.{Answered, Refused, Switched}
+use Rattle.replies.specs.Told.{told, prefix_spelled, help_told}
 
 -- a result, whose answer has these words, is what the call comes to; want of memory is answered only where the call is granted, and where the two
 -- engines differ nothing is said

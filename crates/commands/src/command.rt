@@ -1,8 +1,8 @@
 ghost use Rattle.std.specs.Prelude.{◌≡◌};
 ghost use Rattle.commands.specs.declared.command.Trouble.TheVariants.{Misread, NoMemory};
 
-use crate::kind::Kind;
-use crate::reply::Misread;
+use replies::kind::Kind;
+use replies::reply::Misread;
 use crate::words::{Word, Words};
 use address::Address;
 use address::prefix::Prefix;

@@ -1,12 +1,12 @@
 ghost use Rattle.std.specs.Prelude.{◌≡◌, IfOk};
-ghost use Rattle.commands.specs.Counted.{counted};
+ghost use Rattle.replies.specs.Counted.{counted};
 ghost use Rattle.commands.specs.Replies.{Undisputed};
 ghost use Rattle.commands.specs.Switching.{BothAgree};
 
-use crate::kind::Kind;
-use crate::reply::{Reply, Stop};
+use replies::kind::Kind;
+use replies::reply::{Reply, Stop};
 use crate::session::{answer, shut_pair};
-use crate::summary::Summary;
+use replies::summary::Summary;
 use address::ipv4::Ipv4;
 use address::ipv6::Ipv6;
 use buffer::Buffer;

@@ -1,11 +1,7 @@
-//! The commands of a console over a list of routes: how a line is read as one, what it does to the list, what is answered, and what is counted.
+//! The commands of a console over both engines: how a line is read as one, what it does, and what is answered.
 #![tactic(auto)]
 
-mod answers;
 mod command;
 pub mod console;
-pub mod kind;
-pub mod reply;
 mod session;
-pub mod summary;
 mod words;

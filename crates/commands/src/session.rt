@@ -9,13 +9,13 @@ ghost use Rattle.routes.specs.Meant.{meant};
 ghost use Rattle.commands.specs.Commands.{commanded, newly_open, opened_by};
 ghost use Rattle.commands.specs.Replies.{Comes, OpenReplied, Replied, Replies, ToldSomehow, Undisputed};
 ghost use Rattle.commands.specs.Stands.{Agreed, memory_of, stands};
-ghost use Rattle.commands.specs.Told.{counted_told, opened_told, inserted_told, deleted_told, found_told, matched_told, prefix_spelled};
-ghost use Rattle.commands.specs.Words.{CountedWords, OpenedWords, InsertedWords, DeletedWords, MatchedWords, RouteAnswerWords};
+ghost use Rattle.replies.specs.Told.{counted_told, opened_told, inserted_told, deleted_told, found_told, matched_told, prefix_spelled};
+ghost use Rattle.replies.specs.Words.{CountedWords, OpenedWords, InsertedWords, DeletedWords, MatchedWords, RouteAnswerWords};
 ghost use Rattle.commands.specs.declared.command.Command.TheVariants.{Insert, Delete, Lookup, Exact, First, Next, Counts};
 
-use crate::answers::{Counted, Deleted, Found, HopFound, Inserted, Matched, Opened, RouteText};
+use replies::answers::{Counted, Deleted, Found, HopFound, Inserted, Matched, Opened, RouteText};
 use crate::command::{Command, HELP, Trouble, read_command};
-use crate::reply::{Reply, Stop};
+use replies::reply::{Reply, Stop};
 use crate::words::Words;
 use address::Address;
 use address::prefix::Prefix;

@@ -2,7 +2,7 @@
 #![tactic(auto)]
 
 use commands::console::Console;
-use commands::reply::Reply;
+use replies::reply::Reply;
 use std::io::{BufRead, BufReader};
 
 // Takes each line, and prints what it came to. No clause can pin what is printed, so this is no public function of the library.

@@ -1,7 +1,7 @@
 use Rattle.std.proofs.Common.{refl, codes}
-use Rattle.commands.specs.Told.{counted_told}
-use Rattle.commands.specs.Words.{CountedWords}
-use Rattle.commands.specs.declared.answers.Counted.{Counted}
+use Rattle.replies.specs.Told.{counted_told}
+use Rattle.replies.specs.Words.{CountedWords}
+use Rattle.replies.specs.declared.answers.Counted.{Counted}
 use Rattle.commands.proofs.Told.{tells_so}
 use Rattle.commands.proofs.session.counts.Goals as goal
 

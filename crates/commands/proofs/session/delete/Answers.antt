@@ -1,7 +1,7 @@
 use Rattle.std.proofs.Common.{rules, codes, ◌++◌}
-use Rattle.commands.specs.Told.{deleted_told, prefix_spelled}
-use Rattle.commands.specs.Words.{DeletedWords}
-use Rattle.commands.specs.declared.answers.Deleted.{Deleted}
+use Rattle.replies.specs.Told.{deleted_told, prefix_spelled}
+use Rattle.replies.specs.Words.{DeletedWords}
+use Rattle.replies.specs.declared.answers.Deleted.{Deleted}
 use Rattle.commands.proofs.Told.{tells_so}
 use Rattle.commands.proofs.session.delete.Goals as goal
 

@@ -1,7 +1,7 @@
 use Rattle.std.proofs.Common.{rules, codes, ◌++◌}
-use Rattle.commands.specs.Told.{inserted_told, prefix_spelled}
-use Rattle.commands.specs.Words.{InsertedWords}
-use Rattle.commands.specs.declared.answers.Inserted.{Inserted}
+use Rattle.replies.specs.Told.{inserted_told, prefix_spelled}
+use Rattle.replies.specs.Words.{InsertedWords}
+use Rattle.replies.specs.declared.answers.Inserted.{Inserted}
 use Rattle.commands.proofs.Told.{tells_so}
 use Rattle.commands.proofs.session.insert.Goals as goal
 

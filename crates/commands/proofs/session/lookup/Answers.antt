@@ -1,7 +1,7 @@
 use Rattle.std.proofs.Common.{rules, codes, ◌++◌}
-use Rattle.commands.specs.Told.{found_told, matched_told}
-use Rattle.commands.specs.Words.{MatchedWords}
-use Rattle.commands.specs.declared.answers.Matched.{Matched}
+use Rattle.replies.specs.Told.{found_told, matched_told}
+use Rattle.replies.specs.Words.{MatchedWords}
+use Rattle.replies.specs.declared.answers.Matched.{Matched}
 use Rattle.commands.proofs.Told.{tells_so}
 use Rattle.commands.proofs.session.lookup.Goals as goal
 

@@ -1,7 +1,7 @@
 use Rattle.std.proofs.Common.{rules, codes, ◌++◌}
-use Rattle.commands.specs.Told.{found_told, prefix_spelled}
-use Rattle.commands.specs.Words.{RouteAnswerWords}
-use Rattle.commands.specs.declared.answers.Found.{Found}
+use Rattle.replies.specs.Told.{found_told, prefix_spelled}
+use Rattle.replies.specs.Words.{RouteAnswerWords}
+use Rattle.replies.specs.declared.answers.Found.{Found}
 use Rattle.commands.proofs.Told.{tells_so}
 use Rattle.commands.proofs.session.next.Goals as goal
 

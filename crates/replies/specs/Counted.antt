@@ -1,8 +1,8 @@
 -- What the console counts, and how it tells it at the end.
 use Rattle.std.specs.Prelude.{ℕ, ◌+◌, ◌-◌, ◌^◌, min, List, ◌++◌, codes, decimal}
-use Rattle.commands.specs.declared.reply.Reply.{Reply}
-use Rattle.commands.specs.declared.reply.Reply.TheVariants.{Silence, Remark, Answered, Refused, Misread, Switched}
-use Rattle.commands.specs.declared.summary.Summary.{Summary}
+use Rattle.replies.specs.declared.reply.Reply.{Reply}
+use Rattle.replies.specs.declared.reply.Reply.TheVariants.{Silence, Remark, Answered, Refused, Misread, Switched}
+use Rattle.replies.specs.declared.summary.Summary.{Summary}
 
 -- one more, unless the counter is at its end
 abbrev pub one_more : ℕ → ℕ

@@ -1,8 +1,8 @@
 -- The names of the kinds of address.
 use Rattle.std.specs.Prelude.{◌≡◌, ◌≢◌, ℕ, List, codes, Ok, Err, Result}
-use Rattle.commands.specs.declared.kind.Kind.{Kind}
-use Rattle.commands.specs.declared.kind.Kind.TheVariants.{Ipv4, Ipv6}
-use Rattle.commands.specs.declared.kind.UnknownKind.{UnknownKind}
+use Rattle.replies.specs.declared.kind.Kind.{Kind}
+use Rattle.replies.specs.declared.kind.Kind.TheVariants.{Ipv4, Ipv6}
+use Rattle.replies.specs.declared.kind.UnknownKind.{UnknownKind}
 
 abbrev pub kind_name : Kind → List ℕ
 kind_name Ipv4 = codes "ipv4"

@@ -1,5 +1,5 @@
 ghost use Rattle.std.specs.Prelude.{Some};
-ghost use Rattle.commands.specs.Kinds.{kind_name, NamesKind};
+ghost use Rattle.replies.specs.Kinds.{kind_name, NamesKind};
 
 use std::fmt;
 use std::str::FromStr;

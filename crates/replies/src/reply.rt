@@ -1,6 +1,6 @@
 ghost use Rattle.std.specs.Prelude.{◌≡◌, Some};
-ghost use Rattle.commands.specs.Told.{misread_told, reply_told, stop_told};
-ghost use Rattle.commands.specs.declared.reply.Stop.TheVariants.{NoMemory};
+ghost use Rattle.replies.specs.Told.{misread_told, reply_told, stop_told};
+ghost use Rattle.replies.specs.declared.reply.Stop.TheVariants.{NoMemory};
 
 use crate::kind::Kind;
 use std::alloc::AllocError;

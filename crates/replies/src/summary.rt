@@ -1,5 +1,5 @@
 ghost use Rattle.std.specs.Prelude.{◌≡◌, Some};
-ghost use Rattle.commands.specs.Counted.{counted, summary_told};
+ghost use Rattle.replies.specs.Counted.{counted, summary_told};
 
 use crate::reply::Reply;
 use std::fmt;

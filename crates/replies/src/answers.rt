@@ -1,8 +1,8 @@
 ghost use Rattle.std.specs.Prelude.{◌≡◌, Some, IfOk, codes};
 ghost use Rattle.std.specs.Option.{option_map};
 ghost use Rattle.routes.specs.Meant.{meant};
-ghost use Rattle.commands.specs.Told.{route_text_told, route_spelled, found_told, found_spelled, several_told, opened_told, inserted_told, deleted_told, matched_told, hop_told, counted_told};
-ghost use Rattle.commands.specs.Words.{FoundWords};
+ghost use Rattle.replies.specs.Told.{route_text_told, route_spelled, found_told, found_spelled, several_told, opened_told, inserted_told, deleted_told, matched_told, hop_told, counted_told};
+ghost use Rattle.replies.specs.Words.{FoundWords};
 
 use routes::Route;
 use std::alloc::{AllocError, Global};
@@ -12,14 +12,14 @@ use text::prefix::prefix_text;
 
 // A route in words: the text of its prefix, and its hop.
 #[derive(Drop)]
-pub(crate) struct RouteText {
+pub struct RouteText {
     prefix: String,
     hop: u16,
 }
 
 impl RouteText {
     // The words of a route.
-    pub(crate) fn new<A: AddressText>(
+    pub fn new<A: AddressText>(
         heap: Global,
         route: &Route<A>,
     ) -> Result<RouteText, AllocError>
@@ -44,12 +44,12 @@ impl fmt::Display for RouteText {
 
 // A route in words, if there is one.
 #[derive(Drop)]
-pub(crate) struct Found(Option<RouteText>);
+pub struct Found(Option<RouteText>);
 
 impl Found {
     // The words of a route, if there is one.
-    #[tactic(auto, using(crate::proofs::Told::found_words))]
-    pub(crate) fn new<A: AddressText>(
+    #[tactic(auto, using(crate::proofs::Found::found_words))]
+    pub fn new<A: AddressText>(
         heap: Global,
         route: Option<Route<A>>,
     ) -> Result<Found, AllocError>
@@ -107,9 +107,9 @@ fn nodes(count: usize) -> Several
 
 // An opening: for how many nodes, with how many strides.
 #[derive(Clone, Copy)]
-pub(crate) struct Opened {
-    pub(crate) nodes: usize,
-    pub(crate) strides: usize,
+pub struct Opened {
+    pub nodes: usize,
+    pub strides: usize,
 }
 
 impl fmt::Display for Opened {
@@ -126,9 +126,9 @@ impl fmt::Display for Opened {
 
 // What an insert answered, and the hop that was put in.
 #[derive(Clone, Copy)]
-pub(crate) struct Inserted {
-    pub(crate) hop: u16,
-    pub(crate) answer: reference::Inserted,
+pub struct Inserted {
+    pub hop: u16,
+    pub answer: reference::Inserted,
 }
 
 impl fmt::Display for Inserted {
@@ -145,7 +145,7 @@ impl fmt::Display for Inserted {
 
 // What a delete answered.
 #[derive(Clone, Copy)]
-pub(crate) struct Deleted(pub(crate) reference::Deleted);
+pub struct Deleted(pub reference::Deleted);
 
 impl fmt::Display for Deleted {
     ghost output = { λ deleted. Some (deleted_told deleted.0.hop deleted.0.returned) };
@@ -158,9 +158,9 @@ impl fmt::Display for Deleted {
 
 // What a lookup answered: a route in words, if there is one, and the nodes on the path.
 #[derive(Drop)]
-pub(crate) struct Matched {
-    pub(crate) found: Found,
-    pub(crate) path: usize,
+pub struct Matched {
+    pub found: Found,
+    pub path: usize,
 }
 
 impl fmt::Display for Matched {
@@ -174,7 +174,7 @@ impl fmt::Display for Matched {
 
 // The hop of a prefix, if it has a route.
 #[derive(Clone, Copy)]
-pub(crate) struct HopFound(pub(crate) Option<u16>);
+pub struct HopFound(pub Option<u16>);
 
 impl fmt::Display for HopFound {
     ghost output = { λ found. Some (hop_told found.0) };
@@ -189,7 +189,7 @@ impl fmt::Display for HopFound {
 
 // What a count answered.
 #[derive(Clone, Copy)]
-pub(crate) struct Counted(pub(crate) reference::Counted);
+pub struct Counted(pub reference::Counted);
 
 impl fmt::Display for Counted {
     ghost output = { λ counted. Some (counted_told counted.0.routes counted.0.required counted.0.free) };

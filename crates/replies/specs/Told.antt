@@ -3,13 +3,13 @@ use Rattle.std.specs.Prelude.{ℕ, cond, List, [], ◌∷◌, ◌++◌, ◌==◌
 use Rattle.address.specs.declared.Address.{Ghosts}
 use Rattle.address.specs.declared.prefix.Prefix.{Prefix}
 use Rattle.routes.specs.declared.Route.{Route}
-use Rattle.commands.specs.Kinds.{kind_name}
-use Rattle.commands.specs.declared.answers.RouteText.{RouteText}
-use Rattle.commands.specs.declared.reply.Misread.{Misread}
-use Rattle.commands.specs.declared.reply.Reply.{Reply}
-use Rattle.commands.specs.declared.reply.Stop.{Stop}
-use Rattle.commands.specs.declared.reply.Stop.TheVariants.{NoMemory, Differ}
-use Rattle.commands.specs.declared.reply.Reply.TheVariants.{Silence, Remark, Answered, Refused, Misread as NotRead, Switched}
+use Rattle.replies.specs.Kinds.{kind_name}
+use Rattle.replies.specs.declared.answers.RouteText.{RouteText}
+use Rattle.replies.specs.declared.reply.Misread.{Misread}
+use Rattle.replies.specs.declared.reply.Reply.{Reply}
+use Rattle.replies.specs.declared.reply.Stop.{Stop}
+use Rattle.replies.specs.declared.reply.Stop.TheVariants.{NoMemory, Differ}
+use Rattle.replies.specs.declared.reply.Reply.TheVariants.{Silence, Remark, Answered, Refused, Misread as NotRead, Switched}
 
 -- what was expected, and where it was missed
 abbrev pub misread_told : Misread → List ℕ

@@ -6,7 +6,7 @@ use Rattle.bits.specs.Order.{Sound}
 use Rattle.model.specs.Calls.{Answer, opened, inserted, deleted, matched, hop_is, route_is, counted}
 use Rattle.model.specs.Routes.{Route}
 use Rattle.routes.specs.Meant.{prefix_bits}
-use Rattle.commands.specs.Told.{route_told, prefix_spelled, opened_told, inserted_told, deleted_told, matched_told, hop_told, counted_told}
+use Rattle.replies.specs.Told.{route_told, prefix_spelled, opened_told, inserted_told, deleted_told, matched_told, hop_told, counted_told}
 
 -- the answer to an opening for so many nodes, with so many strides
 abbrev pub OpenedWords : ℕ → ℕ → Answer → List ℕ → Type 0

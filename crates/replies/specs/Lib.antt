@@ -1,0 +1,4 @@
+pub mod Kinds
+pub mod Told
+pub mod Counted
+pub mod Words
