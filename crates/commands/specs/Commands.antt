@@ -5,7 +5,7 @@ use Rattle.model.specs.Outcomes.{Outcome, granted, refused}
 use Rattle.model.specs.Calls.{Call, Answer, open_with, insert, delete, answer, after, shut}
 use Rattle.commands.specs.Stands.{Standing, memory_of}
 use Rattle.commands.specs.declared.command.Command.{Command}
-use Rattle.commands.specs.declared.command.Command.TheVariants.{Kind, Open, Insert, Delete, Lookup, Exact, First, Next, Counts, List as ListAll, Help}
+use Rattle.commands.specs.declared.command.Command.TheVariants.{Kind, Open, Insert, Delete, Lookup, Exact, First, Next, Counts, List as ListAll, Nodes, Help}
 
 -- what a call leaves, in the same memory
 abbrev pub left_after : ℕ → Call → Standing → Standing
@@ -36,4 +36,5 @@ commanded W bits First s = s
 commanded W bits (Next p) s = s
 commanded W bits Counts s = s
 commanded W bits ListAll s = s
+commanded W bits Nodes s = s
 commanded W bits Help s = s

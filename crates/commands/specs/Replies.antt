@@ -10,7 +10,7 @@ use Rattle.pair.specs.declared.failed.Failed.TheVariants.{Refused as WasRefused,
 use Rattle.commands.specs.Stands.{Standing, memory_of}
 use Rattle.replies.specs.Words.{OpenedWords, InsertedWords, DeletedWords, HopWords, CountedWords, RouteAnswerWords, MatchedWords}
 use Rattle.commands.specs.declared.command.Command.{Command}
-use Rattle.commands.specs.declared.command.Command.TheVariants.{Kind, Open, Insert, Delete, Lookup, Exact, First, Next, Counts, List as ListAll, Help}
+use Rattle.commands.specs.declared.command.Command.TheVariants.{Kind, Open, Insert, Delete, Lookup, Exact, First, Next, Counts, List as ListAll, Nodes, Help}
 use Rattle.replies.specs.declared.reply.Reply.{Reply}
 use Rattle.replies.specs.declared.reply.Stop.{Stop}
 use Rattle.replies.specs.declared.reply.Stop.TheVariants as Stopped
@@ -55,7 +55,7 @@ abbrev pub OpenReplied : ℕ → ℕ → List ℕ → Reply → Type 0
 OpenReplied W nodes strides = Tells (codes "open") (OpenedWords (memory_of nodes) (length strides)) (answer W (memory_of nodes) shut (open_with strides))
 
 module _ {X : Type 0} (W : ℕ) (bits : X → Bits) (spelled : X → List ℕ) where
-  -- each call is told as the plain list answers it; of all routes it is not said which words tell them
+  -- each call is told as the plain list answers it; of all routes, and of the drawing of the nodes, it is not said which words tell them
   abbrev pub Replied : Command X → Standing → Reply → Type 0
   Replied (Kind kind) s reply = reply ≡ Switched kind
   Replied (Open nodes strides) s reply = OpenReplied W nodes (vec_items strides) reply
@@ -72,6 +72,7 @@ module _ {X : Type 0} (W : ℕ) (bits : X → Bits) (spelled : X → List ℕ) w
       Tells (codes "next " ++ prefix_spelled spelled p) (RouteAnswerWords bits spelled) (answer W s.nodes s.plain (next (bits p.address) p.length)) reply
   Replied Counts s reply = Tells (codes "counts") CountedWords (answer W s.nodes s.plain counts) reply
   Replied ListAll s reply = ToldSomehow (codes "list") reply
+  Replied Nodes s reply = ToldSomehow (codes "nodes") reply
   Replied Help s (Answered text) = string_bytes text ≡ help_told
   Replied Help s _ = ⊥
 

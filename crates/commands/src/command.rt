@@ -1,11 +1,11 @@
 ghost use Rattle.std.specs.Prelude.{◌≡◌};
 ghost use Rattle.commands.specs.declared.command.Trouble.TheVariants.{Misread, NoMemory};
 
-use replies::kind::Kind;
-use replies::reply::Misread;
 use crate::words::{Word, Words};
 use address::Address;
 use address::prefix::Prefix;
+use replies::kind::Kind;
+use replies::reply::Misread;
 use std::alloc::{AllocError, Global};
 use std::str::FromStr;
 use text::AddressText;
@@ -24,16 +24,17 @@ pub(crate) enum Command<A: Address> {
     Next(Prefix<A>),
     Counts,
     List,
+    Nodes,
     Help,
 }
 
 // All commands, as `help` tells them.
 pub(crate) const HELP: &str =
-    "commands: kind ipv4|ipv6; open NODES STRIDE,STRIDE,..; insert PREFIX HOP; delete PREFIX; lookup ADDRESS; exact PREFIX; first; next PREFIX; counts; list; help; # REMARK";
+    "commands: kind ipv4|ipv6; open NODES STRIDE,STRIDE,..; insert PREFIX HOP; delete PREFIX; lookup ADDRESS; exact PREFIX; first; next PREFIX; counts; list; nodes; help; # REMARK";
 
 // The first words of commands, as they are expected of a line.
 const COMMANDS: &str =
-    "kind, open, insert, delete, lookup, exact, first, next, counts, list or help";
+    "kind, open, insert, delete, lookup, exact, first, next, counts, list, nodes or help";
 
 const KIND: &str = "kind ipv4|ipv6";
 
@@ -197,6 +198,7 @@ pub(crate) fn read_command<A: AddressText>(
         b"next" => Command::Next(read_prefixed(rest(NEXT))?),
         b"counts" => alone(rest("counts"), Command::Counts)?,
         b"list" => alone(rest("list"), Command::List)?,
+        b"nodes" => alone(rest("nodes"), Command::Nodes)?,
         b"help" => alone(rest("help"), Command::Help)?,
         _ => return Err(Trouble::Misread(Misread {
             expected: COMMANDS,

@@ -3,14 +3,14 @@ ghost use Rattle.replies.specs.Counted.{counted};
 ghost use Rattle.commands.specs.Replies.{Undisputed};
 ghost use Rattle.commands.specs.Switching.{BothAgree};
 
-use replies::kind::Kind;
-use replies::reply::{Reply, Stop};
 use crate::session::{answer, shut_pair};
-use replies::summary::Summary;
 use address::ipv4::Ipv4;
 use address::ipv6::Ipv6;
 use buffer::Buffer;
 use pair::Pair;
+use replies::kind::Kind;
+use replies::reply::{Reply, Stop};
+use replies::summary::Summary;
 use std::alloc::Global;
 
 // The engines for the kind of address that is in use.
@@ -32,12 +32,7 @@ impl Engines {
     }
 
     // What the line of a number comes to.
-    fn answer<'a>(
-        &mut self,
-        heap: Global,
-        number: u64,
-        line: &'a [u8],
-    ) -> Result<Reply<'a>, Stop>
+    fn answer<'a>(&mut self, heap: Global, number: u64, line: &'a [u8]) -> Result<Reply<'a>, Stop>
         ensures { BothAgree self.old → BothAgree self.new × Undisputed result }
     {
         match self {

@@ -3,5 +3,6 @@
 
 mod command;
 pub mod console;
+mod drawing;
 mod session;
 mod words;

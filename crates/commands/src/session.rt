@@ -13,9 +13,8 @@ ghost use Rattle.replies.specs.Told.{counted_told, opened_told, inserted_told, d
 ghost use Rattle.replies.specs.Words.{CountedWords, OpenedWords, InsertedWords, DeletedWords, MatchedWords, RouteAnswerWords};
 ghost use Rattle.commands.specs.declared.command.Command.TheVariants.{Insert, Delete, Lookup, Exact, First, Next, Counts};
 
-use replies::answers::{Counted, Deleted, Found, HopFound, Inserted, Matched, Opened, RouteText};
 use crate::command::{Command, HELP, Trouble, read_command};
-use replies::reply::{Reply, Stop};
+use crate::drawing::draw;
 use crate::words::Words;
 use address::Address;
 use address::prefix::Prefix;
@@ -23,6 +22,8 @@ use buffer::Buffer;
 use nodes::MOST_NODES;
 use pair::{Failed, Pair};
 use reference::RouteList;
+use replies::answers::{Counted, Deleted, Found, HopFound, Inserted, Matched, Opened, RouteText};
+use replies::reply::{Reply, Stop};
 use routes::Route;
 use std::alloc::{AllocError, Global};
 use std::fmt::Display;
@@ -115,10 +116,7 @@ fn counted(answer: Result<reference::Counted, Failed>) -> Result<Counted, Failed
 }
 
 // Every route, the smallest first, and how many they are: counted while they are written, since the count stands in front of them.
-fn all_routes<A: AddressText>(
-    heap: Global,
-    pair: &mut Pair<A, Buffer>,
-) -> Result<String, Failed>
+fn all_routes<A: AddressText>(heap: Global, pair: &mut Pair<A, Buffer>) -> Result<String, Failed>
     ensures after { stands pair.new ≡ stands pair.old }
     ensures agree { Agreed A.Address.WIDTH pair.old → Agreed A.Address.WIDTH pair.new × Same result }
 {
@@ -248,10 +246,7 @@ fn exact<A: AddressText>(
     reply(heap, asked.as_str(), pair.exact(prefix).map(HopFound))
 }
 
-fn first<A: AddressText>(
-    heap: Global,
-    pair: &mut Pair<A, Buffer>,
-) -> Result<Reply<'static>, Stop>
+fn first<A: AddressText>(heap: Global, pair: &mut Pair<A, Buffer>) -> Result<Reply<'static>, Stop>
     ensures after { stands pair.new ≡ stands pair.old }
     ensures told { IfOk result (Replied A.Address.WIDTH A.Address.bits A.AddressText.spelled First (stands pair.old)) }
     ensures agree { Agreed A.Address.WIDTH pair.old → Agreed A.Address.WIDTH pair.new × Undisputed result }
@@ -272,10 +267,7 @@ fn next<A: AddressText>(
     reply(heap, asked.as_str(), found(heap, pair.next(prefix)))
 }
 
-fn counts<A: AddressText>(
-    heap: Global,
-    pair: &mut Pair<A, Buffer>,
-) -> Result<Reply<'static>, Stop>
+fn counts<A: AddressText>(heap: Global, pair: &mut Pair<A, Buffer>) -> Result<Reply<'static>, Stop>
     ensures after { stands pair.new ≡ stands pair.old }
     ensures told { IfOk result (Replied A.Address.WIDTH A.Address.bits A.AddressText.spelled Counts (stands pair.old)) }
     ensures agree { Agreed A.Address.WIDTH pair.old → Agreed A.Address.WIDTH pair.new × Undisputed result }
@@ -292,6 +284,14 @@ fn list_all<A: AddressText>(
     ensures agree { Agreed A.Address.WIDTH pair.old → Agreed A.Address.WIDTH pair.new × Undisputed result }
 {
     reply(heap, "list", all_routes(heap, pair))
+}
+
+fn nodes<A: AddressText>(heap: Global, pair: &mut Pair<A, Buffer>) -> Result<Reply<'static>, Stop>
+    ensures after { stands pair.new ≡ stands pair.old }
+    ensures told { IfOk result (ToldSomehow (codes "nodes")) }
+    ensures agree { Agreed A.Address.WIDTH pair.old → Agreed A.Address.WIDTH pair.new × Undisputed result }
+{
+    reply(heap, "nodes", draw(heap, &mut pair.table))
 }
 
 // Does what a command asks for.
@@ -315,6 +315,7 @@ fn perform<A: AddressText>(
         Command::Next(prefix) => next(heap, pair, prefix),
         Command::Counts => counts(heap, pair),
         Command::List => list_all(heap, pair),
+        Command::Nodes => nodes(heap, pair),
         Command::Help => Ok(Reply::Answered(String::from_str(heap, HELP)?)),
     }
 }

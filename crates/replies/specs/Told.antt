@@ -80,7 +80,7 @@ told asked words = asked ++ (codes ": " ++ words)
 -- all commands
 abbrev pub help_told : List ℕ
 help_told =
-    codes "commands: kind ipv4|ipv6; open NODES STRIDE,STRIDE,..; insert PREFIX HOP; delete PREFIX; lookup ADDRESS; exact PREFIX; first; next PREFIX; counts; list; help; # REMARK"
+    codes "commands: kind ipv4|ipv6; open NODES STRIDE,STRIDE,..; insert PREFIX HOP; delete PREFIX; lookup ADDRESS; exact PREFIX; first; next PREFIX; counts; list; nodes; help; # REMARK"
 
 -- what is printed of a reply
 abbrev pub reply_told : Reply → List ℕ

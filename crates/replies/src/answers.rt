@@ -19,10 +19,7 @@ pub struct RouteText {
 
 impl RouteText {
     // The words of a route.
-    pub fn new<A: AddressText>(
-        heap: Global,
-        route: &Route<A>,
-    ) -> Result<RouteText, AllocError>
+    pub fn new<A: AddressText>(heap: Global, route: &Route<A>) -> Result<RouteText, AllocError>
         ensures { IfOk result (λ text. route_text_told text ≡ route_spelled A.AddressText.spelled route.now) }
     {
         let prefix = prefix_text(&route.prefix, heap)?;
@@ -49,10 +46,7 @@ pub struct Found(Option<RouteText>);
 impl Found {
     // The words of a route, if there is one.
     #[tactic(auto, using(crate::proofs::Found::found_words))]
-    pub fn new<A: AddressText>(
-        heap: Global,
-        route: Option<Route<A>>,
-    ) -> Result<Found, AllocError>
+    pub fn new<A: AddressText>(heap: Global, route: Option<Route<A>>) -> Result<Found, AllocError>
         ensures spelled { IfOk result (λ found. found_told found.0 ≡ found_spelled A.AddressText.spelled route) }
         ensures words { IfOk result (λ found. FoundWords A.Address.bits A.AddressText.spelled (option_map (meant A.Address.bits) route) (found_told found.0)) }
     {

@@ -8,5 +8,5 @@ use Rattle.commands.proofs.session.next.Goals as goal
 pub returns-clause-told : goal.returns-clause-told
 returns-clause-told g c =
     tells_so (λ (x : Found). found_told x.0) (RouteAnswerWords g.A.Address.bits g.A.AddressText.spelled)
-      (codes "next " ++ prefix_spelled g.A.AddressText.spelled c.args.prefix) c.as_str.result.now (search rules)
-      c.found.result _ c.reply.result c.reply.ensures.told (c.found.ensures.told _ c.next.ensures.answer)
+    (codes "next " ++ prefix_spelled g.A.AddressText.spelled c.args.prefix) c.as_str.result.now (search rules)
+    c.found.result _ c.reply.result c.reply.ensures.told (c.found.ensures.told _ c.next.ensures.answer)
