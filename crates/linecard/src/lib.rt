@@ -13,6 +13,8 @@ use nodes::NodeRead;
 use plan::Plan;
 use words::Words;
 
+mod feed;
+
 // What stands for an address that no route matches.
 const NO_ROUTE: u32 = 0;
 
