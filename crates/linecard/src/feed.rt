@@ -1,6 +1,7 @@
 //! A table that is fed calls by numbers.
-ghost use Rattle.std.specs.Prelude.{◌≡◌, ◌+◌, ◌*◌, ◌^◌, ◌≤◌, ℕ, List, [], IfOk, IfSome, true, false, length, map, min, take};
+ghost use Rattle.std.specs.Prelude.{◌≡◌, ◌+◌, ◌*◌, ◌^◌, ◌≤◌, ℕ, List, [], IfOk, Some, true, false, length, map, min, take};
 ghost use Rattle.bits.specs.Rows.{row};
+ghost use Rattle.descent.specs.Meant.{held_route};
 ghost use Rattle.faults.specs.Numbers.{number_of};
 ghost use Rattle.fields.specs.Beside.{Beside};
 ghost use Rattle.fields.specs.Layout.{nodes_of};
@@ -12,7 +13,7 @@ ghost use Rattle.table.specs.Answers.{delete_answer, insert_answer, match_answer
 ghost use Rattle.table.specs.Placed.{placed};
 ghost use Rattle.table.specs.Stands.{Stands};
 ghost use Rattle.walks.specs.Shows.{Shows};
-ghost use Rattle.linecard.specs.Fed.{Told, call_of, list_after, placement_after, routes_of, told};
+ghost use Rattle.linecard.specs.Fed.{Told, call_of, list_after, placement_after, route_told, routes_of, told};
 
 use address::ipv4::Ipv4;
 use address::prefix::Prefix;
@@ -24,6 +25,8 @@ use words::Words;
 
 // What is asked by a number, from this bit on; the same bit begins the number of a refusal.
 const ASKED: u32 = 56;
+const INSERT: u64 = 0;
+const DELETE: u64 = 1;
 
 /// Opens a table for IPv4 addresses in the words by these strides, whatever the words held, and puts as many calls to it, one after another, as
 /// there are answers for, or as many as there are calls. A call is a number: its bits 0 to 31 are an address, 32 to 39 a length, 40 to 55 a hop,
@@ -70,17 +73,22 @@ fn answer_one<M: NodeWrite>(table: &mut Table<Ipv4, M>, call: u64) -> u64
     ensures after { (plain : Plain) (at : Placement) → Stands M.NodeRead.nodes 32 table.old plain at → Stands M.NodeRead.nodes 32 table.new (after 32 (M.NodeRead.nodes table.old.memory).size plain (call_of call)) (placed 32 (M.NodeRead.nodes table.old.memory).size plain at (call_of call)) }
     ensures always { M.NodeRead.always table.old.memory table.new.memory }
 {
+    let asked = call >> ASKED;
+    let hop = (call >> 40) % (1 << 16);
+    let length = (call >> 32) % (1 << 8);
     let address = Ipv4 {
         bits: (call % (1 << 32)) as u32,
     };
     let prefix = Prefix {
         address,
-        length: (call >> 32 & 0xff) as u32,
+        length: length as u32,
     };
-    match call >> ASKED {
-        0 => told_insert(table.insert(prefix, (call >> 40 & 0xffff) as u16)),
-        1 => told_delete(table.delete(prefix)),
-        _ => told_lookup(table.lookup(address)),
+    if asked == INSERT {
+        told_insert(table.insert(prefix, hop as u16))
+    } else if asked == DELETE {
+        told_delete(table.delete(prefix))
+    } else {
+        told_lookup(table.lookup(address))
     }
 }
 
@@ -108,13 +116,21 @@ fn told_lookup(answer: Result<Matched<Ipv4>, Fault>) -> u64
     match answer {
         Ok(
             Matched {
-                found: Some(Held { prefix, hop }),
+                found: Some(route),
                 visits,
             },
-        ) => with_nodes(u64::from(hop) + 1 + (u64::from(prefix.prefix.length) << 40), visits),
+        ) => with_nodes(told_route(route), visits),
         Ok(Matched { found: None, visits }) => with_nodes(0, visits),
         Err(fault) => told_refusal(fault),
     }
+}
+
+fn told_route(route: Held<Ipv4>) -> u64
+    ensures value { result ≡ route_told (Some (held_route (λ a. row 32 a.bits) route)) }
+    ensures small { result ≤ 2 ^ 50 }
+{
+    let Held { prefix, hop } = route;
+    u64::from(hop) + 1 + (u64::from(prefix.prefix.length) << 40)
 }
 
 fn told_refusal(fault: Fault) -> u64
