@@ -1,5 +1,9 @@
 -- Calls by numbers, one after another: what one more of them does, and what every table answers.
-use Rattle.std.proofs.Common.{◌≡◌, ℕ, zero, suc, ◌+◌, ◌*◌, ◌/◌, ◌%◌, ◌^◌, ◌<◌, ◌≤◌, ◌-◌, Bool, true, false, cond, List, [], ◌∷◌, ◌++◌, length, take, map, get_or, Some, None, Option, refl, sym, ap, ap₂, ◌∙◌, subst, arith, slice_index, length-take, mod-eq_of_lt}
+use Rattle.std.proofs.Common.{◌≡◌, ℕ, zero, suc, ◌+◌, ◌*◌, ◌/◌, ◌%◌, ◌^◌, ◌<◌, ◌≤◌, ◌-◌, Bool, true, false, cond, List, [], ◌∷◌, ◌++◌, length, take, map, get_or, Some, None, Option, refl, sym, ap, ap₂, ◌∙◌, subst, arith, eqb, set, slice_index, length-take, mod-eq_of_lt}
+use Rattle.std.proofs.lemmas.Bool.{eqb-false, eqb-true}
+use Rattle.std.proofs.lemmas.List.{get_or-set_other}
+use Rattle.std.proofs.lemmas.Grind.{common_steps, get_or-set_at}
+use Rattle.bits.proofs.Orders.{decided, fails, holds}
 use Rattle.std.proofs.Math.Nat.{min-eq_left}
 use Rattle.std.proofs.Math.Numerals.{suc-eq-add-one}
 use Rattle.bits.specs.Rows.{row}
@@ -9,7 +13,7 @@ use Rattle.model.specs.Routes.{prefix_of}
 use Rattle.model.specs.Calls.{Plain, after, after_all, answer, holding, perform, shut}
 use Rattle.model.specs.Placements.{Placement}
 use Rattle.table.specs.Placed.{placed}
-use Rattle.linecard.specs.Fed.{call_of, placed_all}
+use Rattle.linecard.specs.Fed.{Told, call_of, list_after, placed_all, told}
 
 module _ (W N : ℕ) where
   list_suc : (plain : Plain) (calls : List ℕ) (k : ℕ) → k < length calls
@@ -34,6 +38,24 @@ module _ (W N : ℕ) where
       ≡ placed W N (after_all W N plain (map call_of (take k calls))) (placed_all W N plain at (map call_of (take k calls))) (call_of (slice_index calls k))
   placement_more plain at calls k low =
       ap (λ j. placed_all W N plain at (map call_of (take j calls))) (sym (suc-eq-add-one k)) ∙ placement_suc plain at calls k low
+
+-- one more entry
+pub told_more : (N : ℕ) (strides calls before : List ℕ) (i : ℕ) (xs : List ℕ) (v : ℕ) → Told N strides calls before i xs → i < length before
+    → v ≡ told (answer 32 N (list_after N strides (take i calls)) (call_of (slice_index calls i))) → Told N strides calls before (i + 1) (set xs i v)
+told_more N strides calls before i xs v t inside is =
+    record {
+      size = let e = t.size in grind (arith, common_steps);
+      entries = λ k low. elim (decided (eqb k i)) [
+        | holds e ↦
+          let same = eqb-true k i e in
+          get_or-set_at xs i k v 0 same (let size = t.size in omega arith) ∙ is
+          ∙ ap (λ j. told (answer 32 N (list_after N strides (take j calls)) (call_of (slice_index calls j)))) (sym same)
+        | fails e ↦
+          let other = eqb-false k i e in
+          get_or-set_other xs i k v 0 other ∙ t.entries k (let ne = other in omega arith)
+      ];
+      behind = λ k high. get_or-set_other xs i k v 0 (λ e. omega arith) ∙ t.behind k (omega arith);
+    }
 
 -- a prefix that is sound is at most as long as its address, and its bits are as many as its length says
 sound_short : (a len : ℕ) → Sound (row 32 a) len → len ≤ 32

@@ -48,12 +48,30 @@ pub extern "C" fn linecard_feed(
     ensures shows { result ≡ true → Shows 32 (nodes_of words.new) strides.now (routes_of (list_after (nodes_of words.old).size strides.now (take (length answers.old) calls.now))) (placement_after (nodes_of words.old).size strides.now (take (length answers.old) calls.now)) }
     ensures beside { Beside words.old words.new }
 {
-    let mut table = Table::new(Words::new(words));
+    let (_memory, opened) = feed(Words::new(words), strides, calls, answers);
+    opened
+}
+
+// Opens a table over the memory and answers each call that has an entry: the memory, and whether the table was opened.
+fn feed<M: NodeWrite>(
+    memory: M,
+    strides: &[u8],
+    calls: &[u64],
+    answers: &mut [u64],
+) -> (M, bool)
+    ensures opened { result.1 ≡ is_granted (answer 32 (M.NodeRead.nodes memory).size shut (open_with strides.now)) }
+    ensures memory { result.1 ≡ false → M.NodeRead.still memory result.0 }
+    ensures unopened { result.1 ≡ false → answers.new ≡ answers.old }
+    ensures answers { result.1 ≡ true → Told (M.NodeRead.nodes memory).size strides.now calls.now answers.old (min (length calls.now) (length answers.old)) answers.new }
+    ensures shows { result.1 ≡ true → Shows 32 (M.NodeRead.nodes result.0) strides.now (routes_of (list_after (M.NodeRead.nodes memory).size strides.now (take (length answers.old) calls.now))) (placement_after (M.NodeRead.nodes memory).size strides.now (take (length answers.old) calls.now)) }
+    ensures always { M.NodeRead.always memory result.0 }
+{
+    let mut table = Table::new(memory);
     if table.open(strides).is_err() {
-        return false;
+        return (table.into_memory(), false);
     }
     answer_each(&mut table, calls, answers);
-    true
+    (table.into_memory(), true)
 }
 
 // Answers each call that has an entry.
