@@ -20,6 +20,7 @@ use address::prefix::Prefix;
 use descent::{Held, Matched};
 use faults::Fault;
 use nodes::{MOST_NODES, NodeWrite};
+use std::mem;
 use table::{Deleted, Inserted, Table};
 use words::Words;
 
@@ -48,30 +49,32 @@ pub extern "C" fn linecard_feed(
     ensures shows { result ≡ true → Shows 32 (nodes_of words.new) strides.now (routes_of (list_after (nodes_of words.old).size strides.now (take (length answers.old) calls.now))) (placement_after (nodes_of words.old).size strides.now (take (length answers.old) calls.now)) }
     ensures beside { Beside words.old words.new }
 {
-    let (_memory, opened) = feed(Words::new(words), strides, calls, answers);
-    opened
+    let mut memory = Words::new(words);
+    feed(&mut memory, Words::new(&mut []), strides, calls, answers)
 }
 
-// Opens a table over the memory and answers each call that has an entry: the memory, and whether the table was opened.
-fn feed<M: NodeWrite>(
-    memory: M,
+// Opens a table over the memory, while another stands in its place, and answers each call that has an entry. Answers whether the table was opened.
+fn feed<M: NodeWrite + Drop>(
+    memory: &mut M,
+    other: M,
     strides: &[u8],
     calls: &[u64],
     answers: &mut [u64],
-) -> (M, bool)
-    ensures opened { result.1 ≡ is_granted (answer 32 (M.NodeRead.nodes memory).size shut (open_with strides.now)) }
-    ensures memory { result.1 ≡ false → M.NodeRead.still memory result.0 }
-    ensures unopened { result.1 ≡ false → answers.new ≡ answers.old }
-    ensures answers { result.1 ≡ true → Told (M.NodeRead.nodes memory).size strides.now calls.now answers.old (min (length calls.now) (length answers.old)) answers.new }
-    ensures shows { result.1 ≡ true → Shows 32 (M.NodeRead.nodes result.0) strides.now (routes_of (list_after (M.NodeRead.nodes memory).size strides.now (take (length answers.old) calls.now))) (placement_after (M.NodeRead.nodes memory).size strides.now (take (length answers.old) calls.now)) }
-    ensures always { M.NodeRead.always memory result.0 }
+) -> bool
+    ensures opened { result ≡ is_granted (answer 32 (M.NodeRead.nodes memory.old).size shut (open_with strides.now)) }
+    ensures memory { result ≡ false → M.NodeRead.still memory.old memory.new }
+    ensures unopened { result ≡ false → answers.new ≡ answers.old }
+    ensures answers { result ≡ true → Told (M.NodeRead.nodes memory.old).size strides.now calls.now answers.old (min (length calls.now) (length answers.old)) answers.new }
+    ensures shows { result ≡ true → Shows 32 (M.NodeRead.nodes memory.new) strides.now (routes_of (list_after (M.NodeRead.nodes memory.old).size strides.now (take (length answers.old) calls.now))) (placement_after (M.NodeRead.nodes memory.old).size strides.now (take (length answers.old) calls.now)) }
+    ensures always { M.NodeRead.always memory.old memory.new }
 {
-    let mut table = Table::new(memory);
-    if table.open(strides).is_err() {
-        return (table.into_memory(), false);
+    let mut table = Table::new(mem::replace(memory, other));
+    let opened = table.open(strides).is_ok();
+    if opened {
+        answer_each(&mut table, calls, answers);
     }
-    answer_each(&mut table, calls, answers);
-    (table.into_memory(), true)
+    *memory = table.into_memory();
+    opened
 }
 
 // Answers each call that has an entry.
