@@ -1,5 +1,5 @@
 -- Calls by numbers, one after another: what one more of them does, and what every table answers.
-use Rattle.std.proofs.Common.{◌≡◌, ℕ, zero, suc, ◌+◌, ◌*◌, ◌/◌, ◌%◌, ◌^◌, ◌<◌, ◌≤◌, ◌-◌, Bool, true, false, cond, List, [], ◌∷◌, ◌++◌, length, take, map, get_or, Some, None, Option, refl, sym, ap, ap₂, ◌∙◌, subst, arith, eqb, set, slice_index, length-take, mod-eq_of_lt}
+use Rattle.std.proofs.Common.{◌≡◌, ℕ, zero, suc, ◌+◌, ◌*◌, ◌/◌, ◌%◌, ◌^◌, ◌<◌, ◌≤◌, ◌-◌, Bool, true, false, cond, List, [], ◌∷◌, ◌++◌, length, take, map, get_or, Some, None, Option, Ok, Err, Result, IfOk, is_ok, refl, sym, ap, ap₂, ◌∙◌, subst, arith, eqb, set, slice_index, length-take, mod-eq_of_lt}
 use Rattle.std.proofs.lemmas.Bool.{eqb-false, eqb-true}
 use Rattle.std.proofs.lemmas.List.{get_or-set_other}
 use Rattle.std.proofs.lemmas.Grind.{common_steps, get_or-set_at}
@@ -10,7 +10,9 @@ use Rattle.bits.specs.Rows.{row}
 use Rattle.bits.specs.Order.{Sound}
 use Rattle.bits.proofs.Rows.{length_row}
 use Rattle.model.specs.Routes.{prefix_of}
-use Rattle.model.specs.Calls.{Plain, after, after_all, answer, holding, perform, shut}
+use Rattle.faults.specs.declared.Fault.{Fault}
+use Rattle.model.specs.Outcomes.{is_granted, outcome}
+use Rattle.model.specs.Calls.{Answer, Plain, after, after_all, answer, holding, perform, shut}
 use Rattle.model.specs.Placements.{Placement}
 use Rattle.table.specs.Placed.{placed}
 use Rattle.linecard.specs.Fed.{Told, call_of, list_after, placed_all, told}
@@ -78,3 +80,17 @@ module _ (n hop x len a : ℕ) (n_is : n ≡ hop) where
       let long = sound_long a len s in
       let same : x * 2 ^ 40 % 2 ^ 64 ≡ x * 2 ^ 40 = mod-eq_of_lt (omega arith) in
       omega arith
+
+-- ---- opening
+
+pub never : false ≡ true → ⊥
+never e = let z : ◌≡◌ {A = ℕ} 0 1 = cc in omega arith
+
+-- a result is granted where it is one that went well, and then has what such a one has
+pub granted_ok : {T : Type 0} (meant : T → Answer) (r : Result T Fault) → is_ok r ≡ is_granted (outcome meant r)
+granted_ok meant (Ok x) = refl
+granted_ok meant (Err f) = refl
+
+pub on_ok : {T : Type 0} {P : Type 0} (r : Result T Fault) → is_ok r ≡ true → IfOk r (λ x. P) → P
+on_ok (Ok x) e p = p
+on_ok (Err f) e p = absurd (never e)

@@ -1,4 +1,4 @@
--- What is asked by a number, and how many nodes a table tells of at most.
+-- How many nodes a table tells of at most.
 use Rattle.std.proofs.Common.{◌≡◌, ℕ, ◌+◌, ◌*◌, ◌/◌, ◌%◌, ◌^◌, ◌<◌, ◌≤◌, ◌≢◌, Bool, true, false, cond, eqb, leb, List, [], ◌∷◌, length, take, Some, None, Option, Ok, Err, Result, IfOk, refl, sym, ap, ap₂, ◌∙◌, subst, arith, rules, leb-true}
 use Rattle.std.proofs.lemmas.Bool.{ne_eqb}
 use Rattle.std.proofs.lemmas.Bool.Decides.{nat_tests}
@@ -25,20 +25,6 @@ use Rattle.table.specs.declared.Deleted.{Deleted}
 use Rattle.table.specs.declared.Inserted.{Inserted}
 use Rattle.table.specs.Stands.{StandsFor}
 use Rattle.linecard.specs.Fed.{call_of, routes_of}
-
--- ---- what is asked
-
-pub asks_insert : (n : ℕ) → n / 2 ^ 56 ≡ 0 → call_of n ≡ insert (row 32 (n % 2 ^ 32)) (n / 2 ^ 32 % 2 ^ 8) (n / 2 ^ 40 % 2 ^ 16)
-unfolding call_of
-asks_insert n e = simp e refl
-
-pub asks_delete : (n : ℕ) → n / 2 ^ 56 ≡ 1 → call_of n ≡ delete (row 32 (n % 2 ^ 32)) (n / 2 ^ 32 % 2 ^ 8)
-unfolding call_of
-asks_delete n e = simp e refl
-
-pub asks_lookup : (n : ℕ) → (n / 2 ^ 56 ≡ 0 → ⊥) → (n / 2 ^ 56 ≡ 1 → ⊥) → call_of n ≡ lookup (row 32 (n % 2 ^ 32))
-unfolding call_of
-asks_lookup n e f = simp (ne_eqb (n / 2 ^ 56) 0 e, ne_eqb (n / 2 ^ 56) 1 f) refl
 
 -- ---- how many nodes are told of
 
@@ -119,10 +105,3 @@ module _ {X : Type 0} {G : Ghosts X} (bits : X → Bits) where
   pub visited_few : (r : Result (Matched X G) Fault) → Few (outcome (match_answer bits) r) → IfOk r (λ x. x.visits ≤ most_nodes)
   visited_few (Ok x) few = few
   visited_few (Err e) few = tt
-
--- ---- a lookup leaves list and placement
-
-pub looked_up : (W N : ℕ) (plain : Plain) (at : Placement) (a : Bits) (P : Plain → Placement → Type 0) → P plain at
-    → P (after W N plain (lookup a)) (placed W N plain at (lookup a))
-looked_up W N shut at a P p = p
-looked_up W N (holding plan routes) at a P p = p

@@ -1,2 +1,3 @@
-pub mod Feeds
-pub mod Few
+mod Asked
+mod Few
+mod Feeds

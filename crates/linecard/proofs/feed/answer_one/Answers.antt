@@ -7,7 +7,8 @@ use Rattle.std.specs.Option.{option_map}
 use Rattle.table.specs.Placed.{placed}
 use Rattle.table.specs.Stands.{Stands}
 use Rattle.linecard.specs.Fed.{told}
-use Rattle.linecard.proofs.Few.{Few, asks_delete, asks_insert, asks_lookup, delete_few, insert_few, lookup_few, looked_up, returned_few, taken_few, visited_few}
+use Rattle.linecard.proofs.Asked.{asks_delete, asks_insert, asks_lookup, looked_up}
+use Rattle.linecard.proofs.Few.{Few, delete_few, insert_few, lookup_few, returned_few, taken_few, visited_few}
 use Rattle.linecard.proofs.feed.answer_one.Goals as goal
 
 pub returns-then-asked-eq-INSERT-clause-answer : goal.returns-then-asked-eq-INSERT-clause-answer
