@@ -1,5 +1,5 @@
 -- What is asked by a number, and what it leaves: the plan stays, and a lookup leaves all.
-use Rattle.std.proofs.Common.{◌≡◌, ℕ, ◌/◌, ◌%◌, ◌^◌, leb, eqb, List, [], ◌∷◌, map, Some, None, Option, Ok, Err, Result, refl, sym, subst}
+use Rattle.std.proofs.Common.{◌≡◌, ℕ, ◌/◌, ◌%◌, ◌^◌, leb, eqb, List, [], ◌∷◌, map, Some, None, Option, refl, sym, ap, ap₂, ◌∙◌, subst}
 use Rattle.std.proofs.lemmas.Bool.{eqb-false, eqb-true, ne_eqb}
 use Rattle.bits.specs.Rows.{Bits, row}
 use Rattle.bits.proofs.Orders.{decided, fails, holds}
@@ -12,17 +12,31 @@ use Rattle.linecard.specs.Fed.{call_of, list_after, routes_of}
 
 -- ---- what is asked
 
-pub asks_insert : (n : ℕ) → n / 2 ^ 56 ≡ 0 → call_of n ≡ insert (row 32 (n % 2 ^ 32)) (n / 2 ^ 32 % 2 ^ 8) (n / 2 ^ 40 % 2 ^ 16)
-unfolding call_of
-asks_insert n e = simp e refl
+module _ (n : ℕ) where
+  asks_insert : n / 2 ^ 56 ≡ 0 → call_of n ≡ insert (row 32 (n % 2 ^ 32)) (n / 2 ^ 32 % 2 ^ 8) (n / 2 ^ 40 % 2 ^ 16)
+  unfolding call_of
+  asks_insert e = simp e refl
 
-pub asks_delete : (n : ℕ) → n / 2 ^ 56 ≡ 1 → call_of n ≡ delete (row 32 (n % 2 ^ 32)) (n / 2 ^ 32 % 2 ^ 8)
-unfolding call_of
-asks_delete n e = simp e refl
+  asks_delete : n / 2 ^ 56 ≡ 1 → call_of n ≡ delete (row 32 (n % 2 ^ 32)) (n / 2 ^ 32 % 2 ^ 8)
+  unfolding call_of
+  asks_delete e = simp e refl
 
-pub asks_lookup : (n : ℕ) → (n / 2 ^ 56 ≡ 0 → ⊥) → (n / 2 ^ 56 ≡ 1 → ⊥) → call_of n ≡ lookup (row 32 (n % 2 ^ 32))
-unfolding call_of
-asks_lookup n e f = simp (ne_eqb (n / 2 ^ 56) 0 e, ne_eqb (n / 2 ^ 56) 1 f) refl
+  asks_lookup : (n / 2 ^ 56 ≡ 0 → ⊥) → (n / 2 ^ 56 ≡ 1 → ⊥) → call_of n ≡ lookup (row 32 (n % 2 ^ 32))
+  unfolding call_of
+  asks_lookup e f = simp (ne_eqb (n / 2 ^ 56) 0 e, ne_eqb (n / 2 ^ 56) 1 f) refl
+
+  -- by what is read of the number
+  module _ (a : ℕ) (a_is : a ≡ n % 2 ^ 32) where
+    pub is_lookup : (n / 2 ^ 56 ≡ 0 → ⊥) → (n / 2 ^ 56 ≡ 1 → ⊥) → call_of n ≡ lookup (row 32 a)
+    is_lookup e f = asks_lookup e f ∙ ap (λ x. lookup (row 32 x)) (sym a_is)
+
+    module _ (l : ℕ) (l_is : l ≡ n / 2 ^ 32 % 2 ^ 8) where
+      pub is_delete : n / 2 ^ 56 ≡ 1 → call_of n ≡ delete (row 32 a) l
+      is_delete e = asks_delete e ∙ ap₂ (λ x y. delete (row 32 x) y) (sym a_is) (sym l_is)
+
+      pub is_insert : (h : ℕ) → h ≡ n / 2 ^ 40 % 2 ^ 16 → n / 2 ^ 56 ≡ 0 → call_of n ≡ insert (row 32 a) l h
+      is_insert h h_is e =
+          asks_insert e ∙ ap₂ (λ x y. insert (row 32 x) y (n / 2 ^ 40 % 2 ^ 16)) (sym a_is) (sym l_is) ∙ ap (insert (row 32 a) l) (sym h_is)
 
 -- ---- a lookup leaves list and placement
 

@@ -1,5 +1,5 @@
 -- Calls by numbers, one after another: what one more of them does, and what every table answers.
-use Rattle.std.proofs.Common.{◌≡◌, ℕ, zero, suc, ◌+◌, ◌*◌, ◌/◌, ◌%◌, ◌^◌, ◌<◌, ◌≤◌, ◌-◌, Bool, true, false, cond, List, [], ◌∷◌, ◌++◌, length, take, map, get_or, Some, None, Option, Ok, Err, Result, IfOk, is_ok, refl, sym, ap, ap₂, ◌∙◌, subst, arith, eqb, set, slice_index, length-take, mod-eq_of_lt}
+use Rattle.std.proofs.Common.{◌≡◌, ℕ, zero, suc, ◌+◌, ◌*◌, ◌%◌, ◌^◌, ◌<◌, ◌≤◌, true, false, List, [], ◌∷◌, length, take, map, Ok, Err, Result, IfOk, is_ok, refl, sym, ap, ◌∙◌, arith, eqb, set, slice_index, length-take, mod-eq_of_lt}
 use Rattle.std.proofs.lemmas.Bool.{eqb-false, eqb-true}
 use Rattle.std.proofs.lemmas.List.{get_or-set_other}
 use Rattle.std.proofs.lemmas.Grind.{common_steps, get_or-set_at}
@@ -12,10 +12,10 @@ use Rattle.bits.proofs.Rows.{length_row}
 use Rattle.model.specs.Routes.{prefix_of}
 use Rattle.faults.specs.declared.Fault.{Fault}
 use Rattle.model.specs.Outcomes.{is_granted, outcome}
-use Rattle.model.specs.Calls.{Answer, Plain, after, after_all, answer, holding, perform, shut}
+use Rattle.model.specs.Calls.{Answer, Plain, after, after_all, answer}
 use Rattle.model.specs.Placements.{Placement}
 use Rattle.table.specs.Placed.{placed}
-use Rattle.linecard.specs.Fed.{Told, call_of, list_after, placed_all, told}
+use Rattle.linecard.specs.Fed.{Answered, call_of, list_after, placed_all, told}
 
 module _ (W N : ℕ) where
   list_suc : (plain : Plain) (calls : List ℕ) (k : ℕ) → k < length calls
@@ -42,19 +42,19 @@ module _ (W N : ℕ) where
       ap (λ j. placed_all W N plain at (map call_of (take j calls))) (sym (suc-eq-add-one k)) ∙ placement_suc plain at calls k low
 
 -- one more entry
-pub told_more : (N : ℕ) (strides calls before : List ℕ) (i : ℕ) (xs : List ℕ) (v : ℕ) → Told N strides calls before i xs → i < length before
-    → v ≡ told (answer 32 N (list_after N strides (take i calls)) (call_of (slice_index calls i))) → Told N strides calls before (i + 1) (set xs i v)
+pub told_more : (N : ℕ) (strides calls before : List ℕ) (i : ℕ) (xs : List ℕ) (v : ℕ) → Answered N strides calls before i xs → i < length before
+    → v ≡ told (answer 32 N (list_after N strides (take i calls)) (call_of (slice_index calls i))) → Answered N strides calls before (i + 1) (set xs i v)
 told_more N strides calls before i xs v t inside is =
     record {
       size = let e = t.size in grind (arith, common_steps);
       entries = λ k low. elim (decided (eqb k i)) [
         | holds e ↦
-          let same = eqb-true k i e in
-          get_or-set_at xs i k v 0 same (let size = t.size in omega arith) ∙ is
-          ∙ ap (λ j. told (answer 32 N (list_after N strides (take j calls)) (call_of (slice_index calls j)))) (sym same)
+            let same = eqb-true k i e in
+            get_or-set_at xs i k v 0 same (let size = t.size in omega arith) ∙ is
+            ∙ ap (λ j. told (answer 32 N (list_after N strides (take j calls)) (call_of (slice_index calls j)))) (sym same)
         | fails e ↦
-          let other = eqb-false k i e in
-          get_or-set_other xs i k v 0 other ∙ t.entries k (let ne = other in omega arith)
+            let other = eqb-false k i e in
+            get_or-set_other xs i k v 0 other ∙ t.entries k (let ne = other in omega arith)
       ];
       behind = λ k high. get_or-set_other xs i k v 0 (λ e. omega arith) ∙ t.behind k (omega arith);
     }

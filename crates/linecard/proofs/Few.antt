@@ -1,30 +1,25 @@
 -- How many nodes a table tells of at most.
-use Rattle.std.proofs.Common.{◌≡◌, ℕ, ◌+◌, ◌*◌, ◌/◌, ◌%◌, ◌^◌, ◌<◌, ◌≤◌, ◌≢◌, Bool, true, false, cond, eqb, leb, List, [], ◌∷◌, length, take, Some, None, Option, Ok, Err, Result, IfOk, refl, sym, ap, ap₂, ◌∙◌, subst, arith, rules, leb-true}
-use Rattle.std.proofs.lemmas.Bool.{ne_eqb}
+use Rattle.std.proofs.Common.{◌≡◌, ℕ, ◌≤◌, true, leb, List, length, Some, None, Option, Ok, Err, Result, IfOk, ap, ◌∙◌, arith, leb-true}
 use Rattle.std.proofs.lemmas.Bool.Decides.{nat_tests}
-use Rattle.bits.specs.Rows.{Bits, row}
+use Rattle.bits.specs.Rows.{Bits}
 use Rattle.bits.proofs.Orders.{decided, fails, holds}
-use Rattle.bits.proofs.Rows.{length_row}
 use Rattle.faults.specs.declared.Fault.{Fault}
-use Rattle.faults.specs.Numbers.{number_of}
 use Rattle.images.proofs.Inserting.{needs_within}
 use Rattle.laws.proofs.Matches.{match_laws}
-use Rattle.model.specs.Calls.{Answer, Call, Plain, after, answer, counted, delete, deleted, do_insert, do_call, holding, hop_is, insert, inserted, loaded, lookup, matched, opened, removed, route_is, shut, with_prefix, written}
+use Rattle.model.specs.Calls.{Answer, Plain, answer, counted, delete, deleted, holding, hop_is, insert, inserted, loaded, lookup, matched, opened, removed, route_is, shut, written}
 use Rattle.model.specs.Nodes.{Nodes}
 use Rattle.model.specs.Outcomes.{Outcome, and_then, granted, outcome, refused}
 use Rattle.model.specs.Placements.{Placement}
 use Rattle.model.specs.Plans.{plan_ok}
-use Rattle.model.specs.Required.{path_count, required}
-use Rattle.model.specs.Routes.{Routes, find, last_hop, longest, prefix_of, put, sound, without}
+use Rattle.model.specs.Required.{required}
+use Rattle.model.specs.Routes.{Routes, find, last_hop, prefix_of, put, sound}
 use Rattle.nodes.specs.Fields.{most_nodes}
 use Rattle.address.specs.declared.Address.{Ghosts}
 use Rattle.descent.specs.declared.walk.Matched.{Matched}
 use Rattle.table.specs.Answers.{delete_answer, insert_answer, match_answer}
-use Rattle.table.specs.Placed.{placed}
 use Rattle.table.specs.declared.Deleted.{Deleted}
 use Rattle.table.specs.declared.Inserted.{Inserted}
 use Rattle.table.specs.Stands.{StandsFor}
-use Rattle.linecard.specs.Fed.{call_of, routes_of}
 
 -- ---- how many nodes are told of
 

@@ -1,5 +1,5 @@
 -- A table fed by numbers: the call that each number stands for, what the table is after calls, and the number of each answer.
-use Rattle.std.specs.Prelude.{◌≡◌, ℕ, suc, ◌+◌, ◌*◌, ◌/◌, ◌%◌, ◌^◌, ◌<◌, ◌≤◌, cond, List, [], ◌∷◌, length, map, take, Some, None, Option, ◌==◌, slice_index}
+use Rattle.std.specs.Prelude.{◌≡◌, ℕ, ◌+◌, ◌*◌, ◌/◌, ◌%◌, ◌^◌, ◌<◌, ◌≤◌, cond, List, [], ◌∷◌, length, map, take, Some, None, Option, ◌==◌, slice_index}
 use Rattle.bits.specs.Rows.{row}
 use Rattle.model.specs.Calls.{Answer, Call, Plain, after, after_all, answer, counted, delete, deleted, holding, hop_is, insert, inserted, loaded, lookup, matched, opened, route_is, shut, written}
 use Rattle.model.specs.Outcomes.{Outcome, granted, refused}
@@ -18,13 +18,11 @@ call_of n =
     (cond (n / 2 ^ 56 == 1) (delete address len)
     (lookup address))
 
--- a table of N nodes that is opened by these strides and then asked these calls, one after another
-module _ (N : ℕ) (strides : List ℕ) where
-  -- the plain list that it stands for afterwards
-  abbrev pub list_after : List ℕ → Plain
-  list_after calls = after_all 32 N (holding strides []) (map call_of calls)
+-- A table of N nodes is opened by these strides and then asked these calls, one after another: the plain list that it stands for afterwards,
+abbrev pub list_after : ℕ → List ℕ → List ℕ → Plain
+list_after N strides calls = after_all 32 N (holding strides []) (map call_of calls)
 
--- the placement that the rules give after a list of calls
+-- and the placement that the rules give
 abbrev pub placed_all : ℕ → ℕ → Plain → Placement → List Call → Placement
 placed_all W N plain at [] = at
 placed_all W N plain at (call ∷ calls) = placed_all W N (after W N plain call) (placed W N plain at call) calls
@@ -48,7 +46,7 @@ abbrev pub route_told : Option Route → ℕ
 route_told None = 0
 route_told (Some r) = r.hop + 1 + length r.prefix * 2 ^ 40
 
--- the numbers of nodes from bit 16 on; no other calls are asked
+-- the number of nodes from bit 16 on; no other calls are asked
 abbrev pub answer_told : Answer → ℕ
 answer_told opened = 0
 answer_told (inserted old taken) = hop_told old + taken * 2 ^ 16
@@ -60,13 +58,13 @@ answer_told (counted routes required free) = 0
 answer_told (written long output) = 0
 answer_told (loaded number) = 0
 
--- the number of a refusal from bit 56 on, which no granted call has
+-- the number of a refusal from bit 56 on
 abbrev pub told : Outcome Answer → ℕ
 told (granted a) = answer_told a
 told (refused number layer place) = number * 2 ^ 56
 
 -- the first n entries of an output are told of the first n calls, each of the table as those before it left it, and the others are as they were
-pub record Told (N : ℕ) (strides calls before : List ℕ) (n : ℕ) (after : List ℕ) : Type 0 where
+pub record Answered (N : ℕ) (strides calls before : List ℕ) (n : ℕ) (after : List ℕ) : Type 0 where
   pub size : length after ≡ length before
   pub entries : (k : ℕ) → k < n → slice_index after k ≡ told (answer 32 N (list_after N strides (take k calls)) (call_of (slice_index calls k)))
   pub behind : (k : ℕ) → n ≤ k → slice_index after k ≡ slice_index before k

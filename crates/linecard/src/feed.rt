@@ -1,5 +1,5 @@
 //! A table that is fed calls by numbers.
-ghost use Rattle.std.specs.Prelude.{◌≡◌, ◌+◌, ◌*◌, ◌^◌, ◌≤◌, ℕ, List, [], IfOk, Some, true, false, length, map, min, take};
+ghost use Rattle.std.specs.Prelude.{◌≡◌, ◌+◌, ◌*◌, ◌/◌, ◌%◌, ◌^◌, ◌≤◌, ℕ, List, [], IfOk, Some, true, false, length, map, min, take};
 ghost use Rattle.bits.specs.Rows.{row};
 ghost use Rattle.descent.specs.Meant.{held_route};
 ghost use Rattle.faults.specs.Numbers.{number_of};
@@ -13,7 +13,7 @@ ghost use Rattle.table.specs.Answers.{delete_answer, insert_answer, match_answer
 ghost use Rattle.table.specs.Placed.{placed};
 ghost use Rattle.table.specs.Stands.{Stands};
 ghost use Rattle.walks.specs.Shows.{Shows};
-ghost use Rattle.linecard.specs.Fed.{Told, call_of, list_after, placement_after, route_told, routes_of, told};
+ghost use Rattle.linecard.specs.Fed.{Answered, call_of, list_after, placement_after, route_told, routes_of, told};
 
 use address::ipv4::Ipv4;
 use address::prefix::Prefix;
@@ -26,7 +26,9 @@ use words::Words;
 
 // What is asked by a number, from this bit on; the same bit begins the number of a refusal.
 const ASKED: u32 = 56;
+
 const INSERT: u64 = 0;
+
 const DELETE: u64 = 1;
 
 /// Opens a table for IPv4 addresses in the words by these strides, whatever the words held, and puts as many calls to it, one after another, as
@@ -45,7 +47,7 @@ pub extern "C" fn linecard_feed(
     ensures opened { result ≡ is_granted (answer 32 (nodes_of words.old).size shut (open_with strides.now)) }
     ensures words { result ≡ false → words.new ≡ words.old }
     ensures unopened { result ≡ false → answers.new ≡ answers.old }
-    ensures answers { result ≡ true → Told (nodes_of words.old).size strides.now calls.now answers.old (min (length calls.now) (length answers.old)) answers.new }
+    ensures answers { result ≡ true → Answered (nodes_of words.old).size strides.now calls.now answers.old (min (length calls.now) (length answers.old)) answers.new }
     ensures shows { result ≡ true → Shows 32 (nodes_of words.new) strides.now (routes_of (list_after (nodes_of words.old).size strides.now (take (length answers.old) calls.now))) (placement_after (nodes_of words.old).size strides.now (take (length answers.old) calls.now)) }
     ensures beside { Beside words.old words.new }
 {
@@ -64,7 +66,7 @@ fn feed<M: NodeWrite + Drop>(
     ensures opened { result ≡ is_granted (answer 32 (M.NodeRead.nodes memory.old).size shut (open_with strides.now)) }
     ensures memory { result ≡ false → M.NodeRead.still memory.old memory.new }
     ensures unopened { result ≡ false → answers.new ≡ answers.old }
-    ensures answers { result ≡ true → Told (M.NodeRead.nodes memory.old).size strides.now calls.now answers.old (min (length calls.now) (length answers.old)) answers.new }
+    ensures answers { result ≡ true → Answered (M.NodeRead.nodes memory.old).size strides.now calls.now answers.old (min (length calls.now) (length answers.old)) answers.new }
     ensures shows { result ≡ true → Shows 32 (M.NodeRead.nodes memory.new) strides.now (routes_of (list_after (M.NodeRead.nodes memory.old).size strides.now (take (length answers.old) calls.now))) (placement_after (M.NodeRead.nodes memory.old).size strides.now (take (length answers.old) calls.now)) }
     ensures always { M.NodeRead.always memory.old memory.new }
 {
@@ -79,7 +81,7 @@ fn feed<M: NodeWrite + Drop>(
 
 // Answers each call that has an entry.
 fn answer_each<M: NodeWrite>(table: &mut Table<Ipv4, M>, calls: &[u64], answers: &mut [u64])
-    ensures answers { (strides : List ℕ) → Stands M.NodeRead.nodes 32 table.old (holding strides []) (opened_placement (M.NodeRead.nodes table.old.memory).size) → Told (M.NodeRead.nodes table.old.memory).size strides calls.now answers.old (min (length calls.now) (length answers.old)) answers.new }
+    ensures answers { (strides : List ℕ) → Stands M.NodeRead.nodes 32 table.old (holding strides []) (opened_placement (M.NodeRead.nodes table.old.memory).size) → Answered (M.NodeRead.nodes table.old.memory).size strides calls.now answers.old (min (length calls.now) (length answers.old)) answers.new }
     ensures after { (strides : List ℕ) → Stands M.NodeRead.nodes 32 table.old (holding strides []) (opened_placement (M.NodeRead.nodes table.old.memory).size) → Stands M.NodeRead.nodes 32 table.new (list_after (M.NodeRead.nodes table.old.memory).size strides (take (length answers.old) calls.now)) (placement_after (M.NodeRead.nodes table.old.memory).size strides (take (length answers.old) calls.now)) }
     ensures always { M.NodeRead.always table.old.memory table.new.memory }
 {
@@ -95,22 +97,37 @@ fn answer_one<M: NodeWrite>(table: &mut Table<Ipv4, M>, call: u64) -> u64
     ensures always { M.NodeRead.always table.old.memory table.new.memory }
 {
     let asked = call >> ASKED;
-    let hop = (call >> 40) % (1 << 16);
-    let length = (call >> 32) % (1 << 8);
-    let address = Ipv4 {
-        bits: (call % (1 << 32)) as u32,
-    };
-    let prefix = Prefix {
-        address,
-        length: length as u32,
-    };
     if asked == INSERT {
-        told_insert(table.insert(prefix, hop as u16))
+        told_insert(table.insert(prefix_in(call), hop_in(call)))
     } else if asked == DELETE {
-        told_delete(table.delete(prefix))
+        told_delete(table.delete(prefix_in(call)))
     } else {
-        told_lookup(table.lookup(address))
+        told_lookup(table.lookup(address_in(call)))
     }
+}
+
+fn address_in(call: u64) -> Ipv4
+    ensures { result.bits ≡ call % 2 ^ 32 }
+{
+    Ipv4 {
+        bits: (call % (1 << 32)) as u32,
+    }
+}
+
+fn prefix_in(call: u64) -> Prefix<Ipv4>
+    ensures address { result.address.bits ≡ call % 2 ^ 32 }
+    ensures length { result.length ≡ call / 2 ^ 32 % 2 ^ 8 }
+{
+    Prefix {
+        address: address_in(call),
+        length: ((call >> 32) % (1 << 8)) as u32,
+    }
+}
+
+fn hop_in(call: u64) -> u16
+    ensures { result ≡ call / 2 ^ 40 % 2 ^ 16 }
+{
+    ((call >> 40) % (1 << 16)) as u16
 }
 
 fn told_insert(answer: Result<Inserted, Fault>) -> u64
@@ -141,7 +158,12 @@ fn told_lookup(answer: Result<Matched<Ipv4>, Fault>) -> u64
                 visits,
             },
         ) => with_nodes(told_route(route), visits),
-        Ok(Matched { found: None, visits }) => with_nodes(0, visits),
+        Ok(
+            Matched {
+                found: None,
+                visits,
+            },
+        ) => with_nodes(0, visits),
         Err(fault) => told_refusal(fault),
     }
 }

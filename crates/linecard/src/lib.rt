@@ -1,4 +1,4 @@
-//! For C: many IPv4 addresses looked up in one call, in a tree that lies in lent words.
+//! For C, in lent words: many IPv4 addresses looked up in one call in a tree that lies there, and a table that is opened there and fed many calls.
 #![tactic(auto)]
 
 ghost use Rattle.std.specs.Prelude.{◌≡◌, true, false, length, min};

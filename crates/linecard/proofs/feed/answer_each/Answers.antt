@@ -1,4 +1,4 @@
-use Rattle.std.proofs.Common.{◌≡◌, ◌+◌, ◌∙◌, [], ap, subst, sym, rules, slice_index, take}
+use Rattle.std.proofs.Common.{◌+◌, ◌∙◌, [], ap, subst, sym, rules, slice_index, take}
 use Rattle.model.specs.Calls.{answer, after, holding, Plain}
 use Rattle.model.specs.Placements.{Placement, opened_placement}
 use Rattle.table.specs.Placed.{placed}

@@ -2,7 +2,7 @@ use Rattle.std.specs.Prelude.{◌≡◌, ℕ, [], List, length, take}
 use Rattle.model.specs.Calls.{holding}
 use Rattle.model.specs.Placements.{opened_placement}
 use Rattle.table.specs.Stands.{Stands}
-use Rattle.linecard.specs.Fed.{Told, list_after, placement_after}
+use Rattle.linecard.specs.Fed.{Answered, list_after, placement_after}
 use Rattle.linecard.proofs.feed.answer_each.Given as goal
 
 abbrev pub invariant-loop-i : goal.invariant-loop-i
@@ -11,7 +11,7 @@ invariant-loop-i g l =
       always : g.M.NodeRead.always l.fn.table.memory l.table.memory;
       size : length l.answers ≡ length l.initial.answers;
       answers : (strides : List ℕ) → Stands g.M.NodeRead.nodes 32 l.fn.table (holding strides []) (opened_placement (g.M.NodeRead.nodes l.fn.table.memory).size)
-          → Told (g.M.NodeRead.nodes l.fn.table.memory).size strides l.calls l.initial.answers l.i l.answers;
+          → Answered (g.M.NodeRead.nodes l.fn.table.memory).size strides l.calls l.initial.answers l.i l.answers;
       stands : (strides : List ℕ) → Stands g.M.NodeRead.nodes 32 l.fn.table (holding strides []) (opened_placement (g.M.NodeRead.nodes l.fn.table.memory).size)
           → Stands g.M.NodeRead.nodes 32 l.table (list_after (g.M.NodeRead.nodes l.fn.table.memory).size strides (take l.i l.calls)) (placement_after (g.M.NodeRead.nodes l.fn.table.memory).size strides (take l.i l.calls));
     }
