@@ -24,9 +24,10 @@ use std::mem;
 use table::{Deleted, Inserted, Table};
 use words::Words;
 
-// What is asked by a number, from this bit on; the same bit begins the number of a refusal.
+// From this bit on a call says what is asked, and an answer why it is refused.
 const ASKED: u32 = 56;
 
+// What is asked; any other number asks for a lookup.
 const INSERT: u64 = 0;
 
 const DELETE: u64 = 1;
@@ -55,7 +56,8 @@ pub extern "C" fn linecard_feed(
     feed(&mut memory, Words::new(&mut []), strides, calls, answers)
 }
 
-// Opens a table over the memory, while another stands in its place, and answers each call that has an entry. Answers whether the table was opened.
+// Opens a table over the memory, answers each call that has an entry, and puts the memory back. A table keeps its memory, so the other one stands in
+// the lender's place meanwhile. Answers whether the table was opened.
 fn feed<M: NodeWrite + Drop>(
     memory: &mut M,
     other: M,
@@ -90,7 +92,7 @@ fn answer_each<M: NodeWrite>(table: &mut Table<Ipv4, M>, calls: &[u64], answers:
     }
 }
 
-// The answer to a call.
+// Puts a call to the table: the number of its answer.
 fn answer_one<M: NodeWrite>(table: &mut Table<Ipv4, M>, call: u64) -> u64
     ensures answer { (plain : Plain) (at : Placement) → Stands M.NodeRead.nodes 32 table.old plain at → result ≡ told (answer 32 (M.NodeRead.nodes table.old.memory).size plain (call_of call)) }
     ensures after { (plain : Plain) (at : Placement) → Stands M.NodeRead.nodes 32 table.old plain at → Stands M.NodeRead.nodes 32 table.new (after 32 (M.NodeRead.nodes table.old.memory).size plain (call_of call)) (placed 32 (M.NodeRead.nodes table.old.memory).size plain at (call_of call)) }
@@ -182,7 +184,7 @@ fn told_refusal(fault: Fault) -> u64
     u64::from(fault.refusal.number()) << ASKED
 }
 
-// A number below bit 16 and from bit 40 on, with a number of nodes from bit 16 on. No memory has more than the most.
+// What is told below bit 16 and from bit 40 on, with a number of nodes from bit 16 on. No memory has more than the most.
 fn with_nodes(told: u64, nodes: usize) -> u64
     requires { told ≤ 2 ^ 50 }
     ensures { nodes ≤ most_nodes → result ≡ told + nodes * 2 ^ 16 }
