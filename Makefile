@@ -1,6 +1,6 @@
 # make run: proves and builds the console, and runs it on its stored task.
 # make test: the gate.
-# make bench: proves and builds the library for C, and measures its lookups and updates beside the same in C and, where it is installed, DPDK.
+# make bench: proves and builds the libraries for C, and measures its lookups and updates beside the same in C and, where it is installed, DPDK.
 .PHONY: run test bench
 
 run:
@@ -12,7 +12,8 @@ test:
 	bash .ci/run
 
 bench:
-	@echo "Proving and building the library; the first time this takes some minutes."
+	@echo "Proving and building the libraries; the first time this takes some minutes."
 	@mkdir -p target/bench
 	@cd crates/linecard && rt lib > ../../target/bench/proof.log 2>&1 || { tail -n 40 ../../target/bench/proof.log; exit 1; }
+	@cd crates/feed && rt lib > ../../target/bench/proof.log 2>&1 || { tail -n 40 ../../target/bench/proof.log; exit 1; }
 	@bash bench/run

@@ -67,7 +67,7 @@ static void make_fib(void)
 // The table in Rattle or in C, which is opened anew in the same words.
 static void feed(bool rattle, struct row row)
 {
-    if (!(rattle ? linecard_feed : plain_feed)(words, words_len, PLAN, sizeof PLAN, row.calls, row.len, answers, sizeof answers / sizeof *answers))
+    if (!(rattle ? table_feed : plain_feed)(words, words_len, PLAN, sizeof PLAN, row.calls, row.len, answers, sizeof answers / sizeof *answers))
         stop("the plan is refused");
 }
 

@@ -23,8 +23,8 @@ enum { BAD_LENGTH = 4, STRAY = 5, BAD_HOP = 6, FULL = 7, ABSENT = 8 };
 bool plain_feed(uint64_t *words, size_t words_len, const uint8_t *strides, size_t strides_len,
                 const uint64_t *calls, size_t calls_len, uint64_t *answers, size_t answers_len);
 
-// The proved one, of crates/linecard.
-bool linecard_feed(uint64_t *words, size_t words_len, const uint8_t *strides, size_t strides_len,
+// The proved one, of crates/feed.
+bool table_feed(uint64_t *words, size_t words_len, const uint8_t *strides, size_t strides_len,
                    const uint64_t *calls, size_t calls_len, uint64_t *answers, size_t answers_len);
 
 static inline uint64_t call_of(unsigned asked, uint32_t address, unsigned length, unsigned hop)

@@ -126,7 +126,7 @@ static bool compare(uint64_t *words, uint64_t *plain_words, size_t words_len, co
     garble(answers, answers_len);
     memcpy(plain_words, words, words_len * sizeof *words);
     memcpy(plain_answers, answers, answers_len * sizeof *answers);
-    bool opened = linecard_feed(words, words_len, strides, strides_len, calls, calls_len, answers, answers_len);
+    bool opened = table_feed(words, words_len, strides, strides_len, calls, calls_len, answers, answers_len);
     if (plain_feed(plain_words, words_len, strides, strides_len, calls, calls_len, plain_answers, answers_len) != opened)
         stop("one opens the table, and the other does not");
     for (size_t i = 0; i < answers_len; i++)
@@ -247,7 +247,7 @@ static void measure(void)
     for (int turn = 0; turn < TURNS; turn++)
         for (enum kind kind = OPENING; kind < KINDS; kind++) {
             double start = now();
-            linecard_feed(words, words_len, PLAN, sizeof PLAN, rows[kind].calls, rows[kind].len, answers, most_answers);
+            table_feed(words, words_len, PLAN, sizeof PLAN, rows[kind].calls, rows[kind].len, answers, most_answers);
             best_of(&rattle[kind], start);
             start = now();
             plain_feed(words, words_len, PLAN, sizeof PLAN, rows[kind].calls, rows[kind].len, answers, most_answers);

@@ -1,4 +1,4 @@
-//! For C, in lent words: many IPv4 addresses looked up in one call in a tree that lies there, and a table that is opened there and fed many calls.
+//! For C: many IPv4 addresses looked up in one call, in a tree that lies in lent words.
 #![tactic(auto)]
 
 ghost use Rattle.std.specs.Prelude.{◌≡◌, true, false, length, min};
@@ -12,8 +12,6 @@ use descent::{Matched, lookup};
 use nodes::NodeRead;
 use plan::Plan;
 use words::Words;
-
-mod feed;
 
 // What stands for an address that no route matches.
 const NO_ROUTE: u32 = 0;

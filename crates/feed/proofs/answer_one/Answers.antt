@@ -6,10 +6,10 @@ use Rattle.plan.specs.Strides.{strides_of}
 use Rattle.std.specs.Option.{option_map}
 use Rattle.table.specs.Placed.{placed}
 use Rattle.table.specs.Stands.{Stands}
-use Rattle.linecard.specs.Fed.{told}
-use Rattle.linecard.proofs.Asked.{is_delete, is_insert, is_lookup, looked_up}
-use Rattle.linecard.proofs.Few.{Few, delete_few, insert_few, lookup_few, returned_few, taken_few, visited_few}
-use Rattle.linecard.proofs.feed.answer_one.Goals as goal
+use Rattle.feed.specs.Fed.{told}
+use Rattle.feed.proofs.Asked.{is_delete, is_insert, is_lookup, looked_up}
+use Rattle.feed.proofs.Few.{Few, delete_few, insert_few, lookup_few, returned_few, taken_few, visited_few}
+use Rattle.feed.proofs.answer_one.Goals as goal
 
 pub returns-then-asked-eq-INSERT-clause-answer : goal.returns-then-asked-eq-INSERT-clause-answer
 returns-then-asked-eq-INSERT-clause-answer g c plain at stands =

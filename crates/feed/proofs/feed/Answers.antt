@@ -4,11 +4,11 @@ use Rattle.model.specs.Outcomes.{is_granted}
 use Rattle.model.specs.Placements.{opened_placement}
 use Rattle.table.specs.Stands.{Stands}
 use Rattle.walks.specs.Shows.{Shows}
-use Rattle.linecard.specs.Fed.{Answered, list_after, placement_after, routes_of}
-use Rattle.linecard.proofs.Asked.{plan_stays}
-use Rattle.linecard.proofs.Feeds.{granted_ok, never, on_ok}
-use Rattle.linecard.proofs.feed.feed.Goals.{else-opened, then-opened}
-use Rattle.linecard.proofs.feed.feed.Goals as goal
+use Rattle.feed.specs.Fed.{Answered, list_after, placement_after, routes_of}
+use Rattle.feed.proofs.Asked.{plan_stays}
+use Rattle.feed.proofs.Feeds.{granted_ok, never, on_ok}
+use Rattle.feed.proofs.feed.Goals.{else-opened, then-opened}
+use Rattle.feed.proofs.feed.Goals as goal
 
 pub returns-clause-opened : goal.returns-clause-opened
 returns-clause-opened g c =

@@ -1,4 +1,6 @@
-//! A table that is fed calls by numbers.
+//! For C: a table for IPv4 addresses in lent words, fed with calls by numbers.
+#![tactic(auto)]
+
 ghost use Rattle.std.specs.Prelude.{◌≡◌, ◌+◌, ◌*◌, ◌/◌, ◌%◌, ◌^◌, ◌≤◌, ℕ, List, [], IfOk, Some, true, false, length, map, min, take};
 ghost use Rattle.bits.specs.Rows.{row};
 ghost use Rattle.descent.specs.Meant.{held_route};
@@ -13,7 +15,7 @@ ghost use Rattle.table.specs.Answers.{delete_answer, insert_answer, match_answer
 ghost use Rattle.table.specs.Placed.{placed};
 ghost use Rattle.table.specs.Stands.{Stands};
 ghost use Rattle.walks.specs.Shows.{Shows};
-ghost use Rattle.linecard.specs.Fed.{Answered, call_of, list_after, placement_after, route_told, routes_of, told};
+ghost use Rattle.feed.specs.Fed.{Answered, call_of, list_after, placement_after, route_told, routes_of, told};
 
 use address::ipv4::Ipv4;
 use address::prefix::Prefix;
@@ -39,7 +41,7 @@ const DELETE: u64 = 1;
 /// visited from bit 16 on, and in a lookup the length of the matching prefix from bit 40 on. Answers whether the table was opened; where it was
 /// not, words and answers are as they were.
 #[unsafe(no_mangle)]
-pub extern "C" fn linecard_feed(
+pub extern "C" fn table_feed(
     words: &mut [u64],
     strides: &[u8],
     calls: &[u64],

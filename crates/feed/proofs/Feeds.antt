@@ -15,7 +15,7 @@ use Rattle.model.specs.Outcomes.{is_granted, outcome}
 use Rattle.model.specs.Calls.{Answer, Plain, after, after_all, answer}
 use Rattle.model.specs.Placements.{Placement}
 use Rattle.table.specs.Placed.{placed}
-use Rattle.linecard.specs.Fed.{Answered, call_of, list_after, placed_all, told}
+use Rattle.feed.specs.Fed.{Answered, call_of, list_after, placed_all, told}
 
 module _ (W N : ℕ) where
   list_suc : (plain : Plain) (calls : List ℕ) (k : ℕ) → k < length calls

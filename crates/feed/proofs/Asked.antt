@@ -8,7 +8,7 @@ use Rattle.model.specs.Placements.{Placement}
 use Rattle.model.specs.Required.{required}
 use Rattle.model.specs.Routes.{Routes, find, last_hop, prefix_of, put, sound}
 use Rattle.table.specs.Placed.{placed}
-use Rattle.linecard.specs.Fed.{call_of, list_after, routes_of}
+use Rattle.feed.specs.Fed.{call_of, list_after, routes_of}
 
 -- ---- what is asked
 

@@ -2,8 +2,8 @@ use Rattle.std.specs.Prelude.{◌≡◌, ℕ, [], List, length, take}
 use Rattle.model.specs.Calls.{holding}
 use Rattle.model.specs.Placements.{opened_placement}
 use Rattle.table.specs.Stands.{Stands}
-use Rattle.linecard.specs.Fed.{Answered, list_after, placement_after}
-use Rattle.linecard.proofs.feed.answer_each.Given as goal
+use Rattle.feed.specs.Fed.{Answered, list_after, placement_after}
+use Rattle.feed.proofs.answer_each.Given as goal
 
 abbrev pub invariant-loop-i : goal.invariant-loop-i
 invariant-loop-i g l =

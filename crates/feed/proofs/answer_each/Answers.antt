@@ -3,9 +3,9 @@ use Rattle.model.specs.Calls.{answer, after, holding, Plain}
 use Rattle.model.specs.Placements.{Placement, opened_placement}
 use Rattle.table.specs.Placed.{placed}
 use Rattle.table.specs.Stands.{Stands}
-use Rattle.linecard.specs.Fed.{call_of, list_after, placement_after, told}
-use Rattle.linecard.proofs.Feeds.{list_more, placement_more, told_more}
-use Rattle.linecard.proofs.feed.answer_each.Goals as goal
+use Rattle.feed.specs.Fed.{call_of, list_after, placement_after, told}
+use Rattle.feed.proofs.Feeds.{list_more, placement_more, told_more}
+use Rattle.feed.proofs.answer_each.Goals as goal
 
 pub loop-i-preserved : goal.loop-i-preserved
 loop-i-preserved g c =

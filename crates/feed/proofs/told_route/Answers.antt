@@ -1,6 +1,6 @@
 use Rattle.std.proofs.Common.{rules}
-use Rattle.linecard.proofs.Feeds.{route_fits, route_is}
-use Rattle.linecard.proofs.feed.told_route.Goals as goal
+use Rattle.feed.proofs.Feeds.{route_fits, route_is}
+use Rattle.feed.proofs.told_route.Goals as goal
 
 pub returns-clause-value : goal.returns-clause-value
 returns-clause-value c =
