@@ -60,7 +60,7 @@ impl Trail {
 }
 
 /// Puts into a trail, whatever it had, the way to a prefix's node, as far as it goes, and what is held there. A child on it that is no node is
-/// refused by the memory. The trail is the caller's, so that it is not copied.
+/// refused by the memory; what the trail then has is not said. It is the caller's, so that it is not copied.
 pub fn trail_to<A: Address, M: NodeRead>(
     memory: &mut M,
     plan: &Plan<A>,
