@@ -1,6 +1,6 @@
 # make run: proves and builds the console, and runs it on its stored task.
 # make test: the gate.
-# make bench: proves and builds the lookup for C, and measures it against the same walk in C, three runs with each compiler that is there.
+# make bench: proves and builds the libraries for C, and measures its lookups and updates beside the same in C and, where it is installed, DPDK.
 .PHONY: run test bench
 
 run:
@@ -12,12 +12,8 @@ test:
 	bash .ci/run
 
 bench:
-	@echo "Proving and building the library; the first time this takes some minutes."
+	@echo "Proving and building the libraries; the first time this takes some minutes."
 	@mkdir -p target/bench
 	@cd crates/linecard && rt lib > ../../target/bench/proof.log 2>&1 || { tail -n 40 ../../target/bench/proof.log; exit 1; }
-	@for compiler in gcc clang; do \
-	    if ! command -v $$compiler > /dev/null; then echo "$$compiler is not here"; continue; fi; \
-	    $$compiler -O2 -std=c11 -Wall -Wextra -c bench/walk.c -o target/bench/walk-$$compiler.o && \
-	    $$compiler -O2 -std=c11 -Wall -Wextra bench/lookups.c target/bench/walk-$$compiler.o crates/linecard/out/liblinecard.a -o target/bench/lookups-$$compiler || exit 1; \
-	    for run in 1 2 3; do echo "== C by $$compiler, run $$run"; target/bench/lookups-$$compiler || exit 1; done; \
-	done
+	@cd crates/feed && rt lib > ../../target/bench/proof.log 2>&1 || { tail -n 40 ../../target/bench/proof.log; exit 1; }
+	@bash bench/run

@@ -6,9 +6,6 @@
 #include <stddef.h>
 #include <stdint.h>
 
-// A node has so many words (docs/memory.md).
-enum { NODE_WORDS = 36 };
-
 // For each address an entry: 1 more than the hop of its longest match, or 0 where no route matches it. Answers whether the strides are a
 // plan. This one is written in C. It trusts the words: each child that it meets has to be a node of them.
 bool plain_lookup(const uint64_t *words, size_t words_len, const uint8_t *strides, size_t strides_len,

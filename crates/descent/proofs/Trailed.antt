@@ -1,14 +1,14 @@
 -- What the trail of a prefix comes to, from its steps.
-use Rattle.std.proofs.Common.{◌≡◌, ℕ, ◌≤◌, true, false, ◌&&◌, List, length, Option, Err, Result, sym, ap, ◌∙◌, ap₂}
+use Rattle.std.proofs.Common.{◌≡◌, ℕ, ◌≤◌, true, false, ◌&&◌, List, length, Option, sym, ap, ◌∙◌, ap₂}
 use Rattle.bits.specs.Rows.{Bits}
 use Rattle.bits.proofs.Orders.{holds, fails, decided}
 use Rattle.faults.specs.declared.Fault.{Fault}
 use Rattle.faults.specs.declared.Refusal.TheVariants.{Place}
-use Rattle.faults.specs.Numbers.{of_memory}
+use Rattle.faults.specs.Numbers.{number_of, of_memory}
 use Rattle.laws.proofs.Plans.{planned}
 use Rattle.laws.proofs.Spots.{indexes_lead, lies_at_position}
 use Rattle.model.specs.Nodes.{Nodes, descend, held, hop_in_node}
-use Rattle.model.specs.Outcomes.{and_then, granted, outcome}
+use Rattle.model.specs.Outcomes.{and_then, granted, refused}
 use Rattle.model.specs.Places.{indexes, position_of}
 use Rattle.model.specs.Plans.{plan_ok}
 use Rattle.walks.specs.Trails.{Trail, are_nodes, looked_at, passed, trailed}
@@ -43,12 +43,12 @@ module _ (W : ℕ) (nodes : Nodes) (plan : List ℕ) (p : Bits) (ok : plan_ok W 
       ap granted same ∙ simp there
 
   -- a child on the way, or its end, is no node
-  pub trail_refused : {T : Type 0} (meant : T → Trail) (r : Result T Fault) (f : Fault) (is : List ℕ) → is ≡ way → r ≡ Err f → f ≡ of_memory Place
-      → (readable nodes 0 is && end_there nodes (descend nodes 0 is)) ≡ false → outcome meant r ≡ trailed nodes plan p
+  pub trail_refused : (f : Fault) (is : List ℕ) → is ≡ way → f ≡ of_memory Place
+      → (readable nodes 0 is && end_there nodes (descend nodes 0 is)) ≡ false → refused (number_of f.refusal) f.layer f.place ≡ trailed nodes plan p
   unfolding trailed
-  trail_refused meant r f is e refused place none =
+  trail_refused f is e place none =
       let gone : are_nodes nodes (passed nodes 0 way) ≡ false = all_there ∙ simp (← e, none) in
-      simp (refused, place, gone)
+      simp (place, gone)
 
 -- the hop of a prefix is that of its trail
 pub looked_by_trail : (nodes : Nodes) (plan : List ℕ) (p : Bits) → and_then (trailed nodes plan p) (λ t. granted t.hop) ≡ looked_at nodes plan p

@@ -1,6 +1,5 @@
 -- What the steps of a trail come to: the nodes that are passed, and the hop in the last of them.
 use Rattle.std.specs.Prelude.{◌≡◌, ℕ, ◌+◌, ◌≤◌, Bool, true, false, ◌&&◌, ◌||◌, List, [], ◌∷◌, length, drop, Some, None, Option, Ok, Err, Result, ◌==◌}
-use Rattle.arrayvec.specs.ArrayVec.{ArrayVec}
 use Rattle.faults.specs.declared.Fault.{Fault}
 use Rattle.faults.specs.declared.Refusal.TheVariants.{Place}
 use Rattle.faults.specs.Numbers.{of_memory}
@@ -25,9 +24,9 @@ readable nodes n (i ∷ is) =
     is_child nodes n i && (c == 0 || below)
 
 -- the nodes that a way leads through
-abbrev pub Passes : Nodes → List ℕ → Result (ArrayVec ℕ) Fault → Type 0
-Passes nodes way (Ok through) = (readable nodes 0 way ≡ true) × (through.items ≡ passed nodes 0 way)
-Passes nodes way (Err f) = (readable nodes 0 way ≡ false) × (f ≡ of_memory Place)
+abbrev pub Passes : {T : Type 0} → Nodes → List ℕ → List ℕ → Result T Fault → Type 0
+Passes nodes way through (Ok _) = (readable nodes 0 way ≡ true) × (through ≡ passed nodes 0 way)
+Passes nodes way through (Err f) = (readable nodes 0 way ≡ false) × (f ≡ of_memory Place)
 
 -- the node that a way leads to, if there is one, can be read
 abbrev pub end_there : Nodes → Option ℕ → Bool

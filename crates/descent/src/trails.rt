@@ -1,4 +1,4 @@
-ghost use Rattle.std.specs.Prelude.{◌≡◌, ℕ, ◌+◌, ◌-◌, ◌<◌, ◌≤◌, List, length, drop, slice_index};
+ghost use Rattle.std.specs.Prelude.{◌≡◌, ℕ, ◌+◌, ◌-◌, ◌<◌, ◌≤◌, List, [], None, length, drop, slice_index};
 ghost use Rattle.model.specs.Outcomes.{outcome, granted};
 ghost use Rattle.model.specs.Placements.{Placement};
 ghost use Rattle.model.specs.Places.{indexes, position};
@@ -30,6 +30,18 @@ pub struct Trail {
 }
 
 impl Trail {
+    /// A trail with nothing in it.
+    pub fn new() -> Trail
+        ensures { trail_meant result ≡ record { nodes = []; indexes = []; position = 0; hop = None } }
+    {
+        Trail {
+            nodes: ArrayVec::new(),
+            indexes: ArrayVec::new(),
+            position: 0,
+            hop: None,
+        }
+    }
+
     /// The last of its nodes; 0 where it has none.
     pub fn last(&self) -> u32
         ensures { result ≡ slice_index (trail_meant self.now).nodes (length (trail_meant self.now).nodes - 1) }
@@ -47,33 +59,24 @@ impl Trail {
     }
 }
 
-// Where a prefix lies: the child indexes that lead to its node, and how many bits these are.
-struct Spot {
-    indexes: ArrayVec<u8, 32>,
-    offset: u32,
-}
-
-/// The way to a prefix's node, as far as it goes, and what is held there. A child on it that is no node is refused by the memory.
+/// Puts into a trail, whatever it had, the way to a prefix's node, as far as it goes, and what is held there. A child on it that is no node is
+/// refused by the memory; what the trail then has is not said. It is the caller's, so that it is not copied.
 pub fn trail_to<A: Address, M: NodeRead>(
     memory: &mut M,
     plan: &Plan<A>,
     prefix: SoundPrefix<A>,
-) -> Result<Trail, Fault>
-    ensures any { outcome trail_meant result ≡ trailed (M.NodeRead.nodes memory.old) (strides_of plan.now) (prefix_bits A.Address.bits prefix.prefix) }
-    ensures shown { (routes : Routes) (at : Placement) → Shows A.Address.WIDTH (M.NodeRead.nodes memory.old) (strides_of plan.now) routes at → outcome trail_meant result ≡ granted (trail_in (strides_of plan.now) routes at (prefix_bits A.Address.bits prefix.prefix)) }
+    trail: &mut Trail,
+) -> Result<(), Fault>
+    ensures any { outcome (λ _. trail_meant trail.new) result ≡ trailed (M.NodeRead.nodes memory.old) (strides_of plan.now) (prefix_bits A.Address.bits prefix.prefix) }
+    ensures shown { (routes : Routes) (at : Placement) → Shows A.Address.WIDTH (M.NodeRead.nodes memory.old) (strides_of plan.now) routes at → outcome (λ _. trail_meant trail.new) result ≡ granted (trail_in (strides_of plan.now) routes at (prefix_bits A.Address.bits prefix.prefix)) }
     ensures still { M.NodeRead.still memory.old memory.new }
 {
-    let Spot { indexes, offset } = spot_of(plan, prefix);
-    let position = position_at(prefix, offset);
-    let way = indexes.as_slice();
-    let nodes = pass(memory, way)?;
-    let hop = hop_held(memory, nodes.as_slice(), way.len(), position)?;
-    Ok(Trail {
-        nodes,
-        indexes,
-        position,
-        hop,
-    })
+    let offset = find_spot(plan, prefix, &mut trail.indexes);
+    trail.position = position_at(prefix, offset);
+    let way = trail.indexes.as_slice();
+    pass(memory, way, &mut trail.nodes)?;
+    trail.hop = hop_held(memory, trail.nodes.as_slice(), way.len(), trail.position)?;
+    Ok(())
 }
 
 /// The hop of a prefix, or none.
@@ -86,30 +89,31 @@ pub fn exact<A: Address, M: NodeRead>(
     ensures shown { (routes : Routes) (at : Placement) → Shows A.Address.WIDTH (M.NodeRead.nodes memory.old) (strides_of plan.now) routes at → outcome (λ hop. hop) result ≡ granted (find routes (prefix_bits A.Address.bits prefix.prefix)) }
     ensures still { M.NodeRead.still memory.old memory.new }
 {
-    let trail = trail_to(memory, plan, prefix)?;
+    let mut trail = Trail::new();
+    trail_to(memory, plan, prefix, &mut trail)?;
     Ok(trail.hop)
 }
 
-// Where a prefix lies.
-fn spot_of<A: Address>(plan: &Plan<A>, prefix: SoundPrefix<A>) -> Spot
-    ensures indexes { result.indexes.items ≡ indexes (strides_of plan.now) (prefix_bits A.Address.bits prefix.prefix) }
-    ensures few { length result.indexes.items < 32 }
-    ensures offset { LiesBehind (strides_of plan.now) (prefix_bits A.Address.bits prefix.prefix) result.offset }
+// Puts the child indexes that lead to a prefix's node into a row, whatever that had; answers how many bits these are.
+fn find_spot<A: Address>(plan: &Plan<A>, prefix: SoundPrefix<A>, way: &mut ArrayVec<u8, 32>) -> u32
+    ensures indexes { way.new.items ≡ indexes (strides_of plan.now) (prefix_bits A.Address.bits prefix.prefix) }
+    ensures few { length way.new.items < 32 }
+    ensures offset { LiesBehind (strides_of plan.now) (prefix_bits A.Address.bits prefix.prefix) result }
 {
     let SoundPrefix {
         prefix: Prefix { address, length },
     } = prefix;
-    let mut indexes = ArrayVec::new();
+    way.clear();
     let mut offset = 0;
     for stride in plan.strides() {
         let stride = u32::from(*stride);
         if length - offset < stride {
             break;
         }
-        indexes.push(address.group(offset, stride));
+        way.push(address.group(offset, stride));
         offset += stride;
     }
-    Spot { indexes, offset }
+    offset
 }
 
 // The position of a prefix in a node to which so many bits lead.
@@ -123,13 +127,17 @@ fn position_at<A: Address>(prefix: SoundPrefix<A>, offset: u32) -> u8
     (1 << rest) + prefix.prefix.address.group(offset, rest)
 }
 
-// The nodes that child indexes lead through, from the root on, as far as there are children.
-fn pass<M: NodeRead>(memory: &mut M, indexes: &[u8]) -> Result<ArrayVec<u32, 32>, Fault>
+// Puts the nodes that child indexes lead through, from the root on, as far as there are children, into a row, whatever that had.
+fn pass<M: NodeRead>(
+    memory: &mut M,
+    indexes: &[u8],
+    nodes: &mut ArrayVec<u32, 32>,
+) -> Result<(), Fault>
     requires few { length indexes.now < 32 }
-    ensures passes { Passes (M.NodeRead.nodes memory.old) indexes.now result }
+    ensures passes { Passes (M.NodeRead.nodes memory.old) indexes.now nodes.new.items result }
     ensures still { M.NodeRead.still memory.old memory.new }
 {
-    let mut nodes = ArrayVec::new();
+    nodes.clear();
     let mut node = 0;
     nodes.push(node);
     for index in indexes {
@@ -140,7 +148,7 @@ fn pass<M: NodeRead>(memory: &mut M, indexes: &[u8]) -> Result<ArrayVec<u32, 32>
         node = child;
         nodes.push(node);
     }
-    Ok(nodes)
+    Ok(())
 }
 
 // The hop at a position of the node behind so many child indexes, where the nodes on the way go so far.

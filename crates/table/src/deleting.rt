@@ -10,7 +10,7 @@ ghost use Rattle.table.specs.Stands.{Stands, Still};
 use crate::{Deleted, Table};
 use address::Address;
 use address::prefix::Prefix;
-use descent::trail_to;
+use descent::{Trail, trail_to};
 use faults::{Fault, Refusal};
 use growth::{Climbed, climb, unmark};
 use nodes::NodeWrite;
@@ -28,7 +28,8 @@ impl<A: Address, M: NodeWrite> Table<A, M> {
             return Err(Fault::of_table(Refusal::Shut));
         };
         let prefix = SoundPrefix::new(prefix)?;
-        let trail = trail_to(&mut self.memory, plan, prefix)?;
+        let mut trail = Trail::new();
+        trail_to(&mut self.memory, plan, prefix, &mut trail)?;
         let hop = trail.hop.ok_or(Fault::of_table(Refusal::Absent))?;
         unmark(&mut self.memory, trail.last(), trail.position)?;
         let Climbed { front, returned } = climb(

@@ -10,7 +10,7 @@ ghost use Rattle.table.specs.Stands.{Stands, Still};
 use crate::{Inserted, Table};
 use address::Address;
 use address::prefix::Prefix;
-use descent::trail_to;
+use descent::{Trail, trail_to};
 use faults::{Fault, Refusal};
 use growth::enter;
 use nodes::NodeWrite;
@@ -28,7 +28,8 @@ impl<A: Address, M: NodeWrite> Table<A, M> {
             return Err(Fault::of_table(Refusal::Shut));
         };
         let Route { prefix, hop } = Route::new(prefix, hop)?;
-        let trail = trail_to(&mut self.memory, plan, SoundPrefix { prefix })?;
+        let mut trail = Trail::new();
+        trail_to(&mut self.memory, plan, SoundPrefix { prefix }, &mut trail)?;
         let missing = trail.missing();
         let taken = missing.len();
         let size = self.memory.size() as usize;

@@ -45,3 +45,14 @@ impl<A: Address, M: NodeWrite> NodeRead for Table<A, M> {
         self.memory.hop(node, position)
     }
 }
+
+impl<A: Address, M: NodeWrite> Table<A, M> {
+    ghost use Rattle.std.specs.Prelude.{◌≡◌};
+
+    /// The memory, with the nodes as the table leaves them.
+    pub fn into_memory(self) -> M
+        ensures { result ≡ self.memory }
+    {
+        self.memory
+    }
+}

@@ -1,7 +1,7 @@
 //! The calls that only read a tree as values, and what is answered to one.
 use crate::random::{address, network, one_of};
 use arrayvec::ArrayVec;
-use descent::{Held, exact, first, lookup, next, trail_to};
+use descent::{Held, Trail, exact, first, lookup, next, trail_to};
 use faults::Fault;
 use nodes::NodeRead;
 use plan::Plan;
@@ -140,7 +140,13 @@ pub(crate) fn of_memory<A: Numbered, M: NodeRead>(
             Answer::Route(next(memory, plan, SoundPrefix::new(network.prefix())?)?.map(line))
         }
         Call::Trail(network) => {
-            let trail = trail_to(memory, plan, SoundPrefix::new(network.prefix())?)?;
+            let mut trail = Trail::new();
+            trail_to(
+                memory,
+                plan,
+                SoundPrefix::new(network.prefix())?,
+                &mut trail,
+            )?;
             Answer::Way(Way {
                 nodes: trail.nodes,
                 indexes: trail.indexes,

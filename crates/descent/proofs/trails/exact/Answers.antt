@@ -10,15 +10,15 @@ use Rattle.descent.proofs.trails.exact.Goals as goal
 
 pub returns-clause-any : goal.returns-clause-any
 returns-clause-any g c =
-    ap (λ (o : Outcome Trail). and_then o (λ t. granted t.hop)) c.in_ok-trail.ensures.any
+    ap (λ (o : Outcome Trail). and_then o (λ t. granted t.hop)) c.in_ok-trail_to.ensures.any
     ∙ looked_by_trail (g.M.NodeRead.nodes c.args.memory.now) (strides_of c.args.plan.now) (prefix_bits g.A.Address.bits c.args.prefix.prefix)
 
-pub returns-in_err-trail-clause-any : goal.returns-in_err-trail-clause-any
-returns-in_err-trail-clause-any g c =
-    let f = c.in_err-trail.field-0.0 in
+pub returns-in_err-trail_to-clause-any : goal.returns-in_err-trail_to-clause-any
+returns-in_err-trail_to-clause-any g c =
+    let f = c.in_err-trail_to.field-0.0 in
     let refused : c.from_residual.result ≡ Err f = search rules in
     ap (outcome (λ hop. hop)) refused
-    ∙ ap (λ (o : Outcome Trail). and_then o (λ t. granted t.hop)) c.in_err-trail.ensures.any
+    ∙ ap (λ (o : Outcome Trail). and_then o (λ t. granted t.hop)) c.in_err-trail_to.ensures.any
     ∙ looked_by_trail (g.M.NodeRead.nodes c.args.memory.now) (strides_of c.args.plan.now) (prefix_bits g.A.Address.bits c.args.prefix.prefix)
 
 pub returns-clause-shown : goal.returns-clause-shown
@@ -26,7 +26,7 @@ returns-clause-shown g c routes at shows =
     returns-clause-any g c
     ∙ exact_shown g.A.Address.WIDTH (g.M.NodeRead.nodes c.args.memory.now) (strides_of c.args.plan.now) routes at (prefix_bits g.A.Address.bits c.args.prefix.prefix) shows
 
-pub returns-in_err-trail-clause-shown : goal.returns-in_err-trail-clause-shown
-returns-in_err-trail-clause-shown g c routes at shows =
-    returns-in_err-trail-clause-any g c
+pub returns-in_err-trail_to-clause-shown : goal.returns-in_err-trail_to-clause-shown
+returns-in_err-trail_to-clause-shown g c routes at shows =
+    returns-in_err-trail_to-clause-any g c
     ∙ exact_shown g.A.Address.WIDTH (g.M.NodeRead.nodes c.args.memory.now) (strides_of c.args.plan.now) routes at (prefix_bits g.A.Address.bits c.args.prefix.prefix) shows

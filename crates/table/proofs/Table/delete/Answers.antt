@@ -12,18 +12,18 @@ pub returns-in_err-hop-clause-answer : goal.returns-in_err-hop-clause-answer
 returns-in_err-hop-clause-answer g c plain at stands =
     let t =
     trailed (ap (option_map strides_of) c.in-Some.is) (g.met.A.Address.long c.args.prefix.address) (rw c.in_ok-prefix.ensures at c.in_ok-prefix.prefix.sound)
-    (rw c.in_ok-prefix.ensures at c.in_ok-trail.ensures.shown)
+    (rw c.in_ok-prefix.ensures at c.in_ok-trail_to.ensures.shown)
     (g.met.M.NodeRead.laws.still_nodes c.args.self.now.memory c.trail_to.new.memory c.trail_to.ensures.still) plain at stands in
-    let none = no_hop c.in_ok-trail.trail.hop c.of_table-2.result c.in_err-hop.ensures.value in
+    let none = no_hop c.trail_to.new.trail.hop c.of_table-2.result c.in_err-hop.ensures.value in
     rw (answers_absent t none) (search rules)
 
 pub returns-in_err-hop-clause-after : goal.returns-in_err-hop-clause-after
 returns-in_err-hop-clause-after g c plain at stands =
     let t =
     trailed (ap (option_map strides_of) c.in-Some.is) (g.met.A.Address.long c.args.prefix.address) (rw c.in_ok-prefix.ensures at c.in_ok-prefix.prefix.sound)
-    (rw c.in_ok-prefix.ensures at c.in_ok-trail.ensures.shown)
+    (rw c.in_ok-prefix.ensures at c.in_ok-trail_to.ensures.shown)
     (g.met.M.NodeRead.laws.still_nodes c.args.self.now.memory c.trail_to.new.memory c.trail_to.ensures.still) plain at stands in
-    let none = no_hop c.in_ok-trail.trail.hop c.of_table-2.result c.in_err-hop.ensures.value in
+    let none = no_hop c.trail_to.new.trail.hop c.of_table-2.result c.in_err-hop.ensures.value in
     stays t none (option_map strides_of c.args.self.now.plan) stands
 
 pub returns-in_err-unmark : goal.returns-in_err-unmark
@@ -32,9 +32,9 @@ returns-in_err-unmark g c =
     (λ plain at stands.
     let t =
     trailed (ap (option_map strides_of) c.in-Some.is) (g.met.A.Address.long c.args.prefix.address) (rw c.in_ok-prefix.ensures at c.in_ok-prefix.prefix.sound)
-    (rw c.in_ok-prefix.ensures at c.in_ok-trail.ensures.shown)
+    (rw c.in_ok-prefix.ensures at c.in_ok-trail_to.ensures.shown)
     (g.met.M.NodeRead.laws.still_nodes c.args.self.now.memory c.trail_to.new.memory c.trail_to.ensures.still) plain at stands in
-    let some = hop_there c.in_ok-trail.trail.hop c.of_table-2.result c.in_ok-hop.ensures.value in
+    let some = hop_there c.trail_to.new.trail.hop c.of_table-2.result c.in_ok-hop.ensures.value in
     never (c.in_err-unmark.ensures.done (place_there t some c.last.ensures) (place_free t some c.last.ensures)).0) in
     record {
       answer = λ plain at stands. absurd (wrong plain at stands);
@@ -49,9 +49,9 @@ returns-in_err-front g c =
     (λ plain at stands.
     let t =
     trailed (ap (option_map strides_of) c.in-Some.is) (g.met.A.Address.long c.args.prefix.address) (rw c.in_ok-prefix.ensures at c.in_ok-prefix.prefix.sound)
-    (rw c.in_ok-prefix.ensures at c.in_ok-trail.ensures.shown)
+    (rw c.in_ok-prefix.ensures at c.in_ok-trail_to.ensures.shown)
     (g.met.M.NodeRead.laws.still_nodes c.args.self.now.memory c.trail_to.new.memory c.trail_to.ensures.still) plain at stands in
-    let some = hop_there c.in_ok-trail.trail.hop c.of_table-2.result c.in_ok-hop.ensures.value in
+    let some = hop_there c.trail_to.new.trail.hop c.of_table-2.result c.in_ok-hop.ensures.value in
     let unmarked = c.in_ok-unmark.ensures.done (place_there t some c.last.ensures) (place_free t some c.last.ensures) in
     let starts = climbs t some c.last.ensures unmarked.1 c.as_slice.ensures.value c.as_slice-2.ensures.value in
     not_refused (c.in_err-front.ensures.climbed _ _ _ _ _ starts).0) in
@@ -68,9 +68,9 @@ pub returns-clause-answer : goal.returns-clause-answer
 returns-clause-answer g c plain at stands =
     let t =
     trailed (ap (option_map strides_of) c.in-Some.is) (g.met.A.Address.long c.args.prefix.address) (rw c.in_ok-prefix.ensures at c.in_ok-prefix.prefix.sound)
-    (rw c.in_ok-prefix.ensures at c.in_ok-trail.ensures.shown)
+    (rw c.in_ok-prefix.ensures at c.in_ok-trail_to.ensures.shown)
     (g.met.M.NodeRead.laws.still_nodes c.args.self.now.memory c.trail_to.new.memory c.trail_to.ensures.still) plain at stands in
-    let some = hop_there c.in_ok-trail.trail.hop c.of_table-2.result c.in_ok-hop.ensures.value in
+    let some = hop_there c.trail_to.new.trail.hop c.of_table-2.result c.in_ok-hop.ensures.value in
     let unmarked = c.in_ok-unmark.ensures.done (place_there t some c.last.ensures) (place_free t some c.last.ensures) in
     let starts = climbs t some c.last.ensures unmarked.1 c.as_slice.ensures.value c.as_slice-2.ensures.value in
     let done = c.in_ok-front.ensures.climbed _ _ _ _ _ starts in
@@ -81,9 +81,9 @@ pub returns-clause-after : goal.returns-clause-after
 returns-clause-after g c plain at stands =
     let t =
     trailed (ap (option_map strides_of) c.in-Some.is) (g.met.A.Address.long c.args.prefix.address) (rw c.in_ok-prefix.ensures at c.in_ok-prefix.prefix.sound)
-    (rw c.in_ok-prefix.ensures at c.in_ok-trail.ensures.shown)
+    (rw c.in_ok-prefix.ensures at c.in_ok-trail_to.ensures.shown)
     (g.met.M.NodeRead.laws.still_nodes c.args.self.now.memory c.trail_to.new.memory c.trail_to.ensures.still) plain at stands in
-    let some = hop_there c.in_ok-trail.trail.hop c.of_table-2.result c.in_ok-hop.ensures.value in
+    let some = hop_there c.trail_to.new.trail.hop c.of_table-2.result c.in_ok-hop.ensures.value in
     let unmarked = c.in_ok-unmark.ensures.done (place_there t some c.last.ensures) (place_free t some c.last.ensures) in
     let starts = climbs t some c.last.ensures unmarked.1 c.as_slice.ensures.value c.as_slice-2.ensures.value in
     let done = c.in_ok-front.ensures.climbed _ _ _ _ _ starts in

@@ -13,7 +13,7 @@ returns-then-taken-saturating_sub-clause-answer g c plain at stands =
     let t =
     trailed (ap (option_map strides_of) c.in-Some.is) (g.met.A.Address.long c.args.prefix.address) (rw c.in_ok-prefix.ensures.0 at c.in_ok-prefix.field-0.sound)
     (rw c.in_ok-prefix.ensures.1 at c.in_ok-prefix.field-0.small)
-    (rw c.in_ok-prefix.ensures.0 at c.in_ok-trail.ensures.shown)
+    (rw c.in_ok-prefix.ensures.0 at c.in_ok-trail_to.ensures.shown)
     c.missing-missing.ensures c.size-size.ensures.answer
     (g.met.M.NodeRead.laws.still_nodes c.args.self.now.memory c.trail_to.new.memory c.trail_to.ensures.still) plain at stands in
     rw (sym (answers_full t c.saturating_sub.ensures c.if-taken-saturating_sub.true)) (search rules)
@@ -23,7 +23,7 @@ returns-then-taken-saturating_sub-clause-after g c plain at stands =
     let t =
     trailed (ap (option_map strides_of) c.in-Some.is) (g.met.A.Address.long c.args.prefix.address) (rw c.in_ok-prefix.ensures.0 at c.in_ok-prefix.field-0.sound)
     (rw c.in_ok-prefix.ensures.1 at c.in_ok-prefix.field-0.small)
-    (rw c.in_ok-prefix.ensures.0 at c.in_ok-trail.ensures.shown)
+    (rw c.in_ok-prefix.ensures.0 at c.in_ok-trail_to.ensures.shown)
     c.missing-missing.ensures c.size-size.ensures.answer
     (g.met.M.NodeRead.laws.still_nodes c.args.self.now.memory c.trail_to.new.memory c.trail_to.ensures.still) plain at stands in
     stays t c.saturating_sub.ensures c.if-taken-saturating_sub.true (option_map strides_of c.args.self.now.plan)
@@ -39,7 +39,7 @@ returns-in_err-self g c =
     let t =
     trailed (ap (option_map strides_of) c.in-Some.is) (g.met.A.Address.long c.args.prefix.address) (rw c.in_ok-prefix.ensures.0 at c.in_ok-prefix.field-0.sound)
     (rw c.in_ok-prefix.ensures.1 at c.in_ok-prefix.field-0.small)
-    (rw c.in_ok-prefix.ensures.0 at c.in_ok-trail.ensures.shown)
+    (rw c.in_ok-prefix.ensures.0 at c.in_ok-trail_to.ensures.shown)
     c.missing-missing.ensures c.size-size.ensures.answer
     (g.met.M.NodeRead.laws.still_nodes c.args.self.now.memory c.trail_to.new.memory c.trail_to.ensures.still) plain at stands in
     let first = starts t c.saturating_sub.ensures c.if-taken-saturating_sub.false (g.met.M.NodeRead.laws.still_nodes c.args.self.now.memory c.size-size.new.self
@@ -60,7 +60,7 @@ returns-clause-answer g c plain at stands =
     let t =
     trailed (ap (option_map strides_of) c.in-Some.is) (g.met.A.Address.long c.args.prefix.address) (rw c.in_ok-prefix.ensures.0 at c.in_ok-prefix.field-0.sound)
     (rw c.in_ok-prefix.ensures.1 at c.in_ok-prefix.field-0.small)
-    (rw c.in_ok-prefix.ensures.0 at c.in_ok-trail.ensures.shown)
+    (rw c.in_ok-prefix.ensures.0 at c.in_ok-trail_to.ensures.shown)
     c.missing-missing.ensures c.size-size.ensures.answer
     (g.met.M.NodeRead.laws.still_nodes c.args.self.now.memory c.trail_to.new.memory c.trail_to.ensures.still) plain at stands in
     answers_inserted t c.saturating_sub.ensures c.if-taken-saturating_sub.false
@@ -70,7 +70,7 @@ returns-clause-after g c plain at stands =
     let t =
     trailed (ap (option_map strides_of) c.in-Some.is) (g.met.A.Address.long c.args.prefix.address) (rw c.in_ok-prefix.ensures.0 at c.in_ok-prefix.field-0.sound)
     (rw c.in_ok-prefix.ensures.1 at c.in_ok-prefix.field-0.small)
-    (rw c.in_ok-prefix.ensures.0 at c.in_ok-trail.ensures.shown)
+    (rw c.in_ok-prefix.ensures.0 at c.in_ok-trail_to.ensures.shown)
     c.missing-missing.ensures c.size-size.ensures.answer
     (g.met.M.NodeRead.laws.still_nodes c.args.self.now.memory c.trail_to.new.memory c.trail_to.ensures.still) plain at stands in
     let same = (g.met.M.NodeRead.laws.still_nodes c.args.self.now.memory c.size-size.new.self

@@ -4,13 +4,12 @@ use Rattle.bits.specs.Rows.{number}
 use Rattle.laws.proofs.Plans.{planned}
 use Rattle.descent.specs.Passing.{LiesBehind}
 use Rattle.descent.proofs.Placing.{group_of, placed_there, never_past, placing, placing_on, stride_high}
-use Rattle.descent.proofs.trails.spot_of.Goals.{else-loop-stride-test, then-loop-stride-test+then-length-offset}
-use Rattle.descent.proofs.trails.spot_of.Goals as goal
+use Rattle.descent.proofs.trails.find_spot.Goals as goal
 
 pub loop-stride-init : goal.loop-stride-init
 loop-stride-init g c =
     let p = planned g.A.Address.WIDTH c.strides-stride-items.result.now c.strides-stride-items.ensures.right in
-    rw c.new-indexes.ensures (placing c.strides-stride-items.result.now (take c.args.prefix.prefix.length (g.A.Address.bits c.args.prefix.prefix.address)) p.range)
+    rw c.clear.ensures (placing c.strides-stride-items.result.now (take c.args.prefix.prefix.length (g.A.Address.bits c.args.prefix.prefix.address)) p.range)
 
 pub loop-stride-preserved : goal.loop-stride-preserved
 loop-stride-preserved g c =
@@ -31,27 +30,30 @@ push-requires g c =
     let each = c.loop-stride.invariant.each in
     (omega arith, omega (arith, p.few))
 
-pub returns-clause-offset : goal.returns-clause-offset
-returns-clause-offset g c =
-    let bits = g.A.Address.bits c.args.prefix.prefix.address in
-    let len = c.args.prefix.prefix.length in
-    let plan = c.strides-stride-items.result.now in
-    let l = g.met.A.Address.long c.args.prefix.prefix.address in
-    let t = length-take-le len bits c.args.prefix.sound.0 in
-    let p = planned g.A.Address.WIDTH plan c.strides-stride-items.ensures.right in
-    let there : LiesBehind plan (take len bits) c.loop-stride.offset = elim c.loop-stride-test.branch [
-      | else-loop-stride-test w ↦ absurd (never_past c.loop-stride.invariant w.loop-stride-test.false (omega (arith, p.total, c.args.prefix.sound.0)))
-      | then-loop-stride-test+then-length-offset w ↦
-          placed_there c.loop-stride.invariant w.loop-stride-test.true w.from-stride.result w.from-stride.ensures (omega (arith, w.if-length-offset.true))
-    ] in
-    rw (← c.strides-stride-items.ensures.value) there
-
-pub returns-clause-few : goal.returns-clause-few
-returns-clause-few g c =
+pub returns-after-loop-stride-clause-offset : goal.returns-after-loop-stride-clause-offset
+returns-after-loop-stride-clause-offset g c =
     let l = g.met.A.Address.long c.args.prefix.prefix.address in
     let t = length-take-le c.args.prefix.prefix.length (g.A.Address.bits c.args.prefix.prefix.address) c.args.prefix.sound.0 in
     let p = planned g.A.Address.WIDTH c.strides-stride-items.result.now c.strides-stride-items.ensures.right in
-    elim c.loop-stride-test.branch [
-      | else-loop-stride-test w ↦ absurd (never_past c.loop-stride.invariant w.loop-stride-test.false (omega (arith, p.total, c.args.prefix.sound.0)))
-      | then-loop-stride-test+then-length-offset w ↦ omega (arith, p.few, c.loop-stride.invariant.each, w.loop-stride-test.true)
-    ]
+    absurd (never_past c.loop-stride.invariant c.loop-stride-test.false (omega (arith, p.total, c.args.prefix.sound.0)))
+
+pub returns-after-loop-stride-clause-few : goal.returns-after-loop-stride-clause-few
+returns-after-loop-stride-clause-few g c =
+    let l = g.met.A.Address.long c.args.prefix.prefix.address in
+    let t = length-take-le c.args.prefix.prefix.length (g.A.Address.bits c.args.prefix.prefix.address) c.args.prefix.sound.0 in
+    let p = planned g.A.Address.WIDTH c.strides-stride-items.result.now c.strides-stride-items.ensures.right in
+    absurd (never_past c.loop-stride.invariant c.loop-stride-test.false (omega (arith, p.total, c.args.prefix.sound.0)))
+
+pub returns-then-length-offset-clause-offset : goal.returns-then-length-offset-clause-offset
+returns-then-length-offset-clause-offset g c =
+    let bits = g.A.Address.bits c.args.prefix.prefix.address in
+    let len = c.args.prefix.prefix.length in
+    let t = length-take-le len bits c.args.prefix.sound.0 in
+    let there : LiesBehind c.strides-stride-items.result.now (take len bits) c.loop-stride.offset =
+    placed_there c.loop-stride.invariant c.loop-stride-test.true c.from-stride.result c.from-stride.ensures (omega (arith, c.if-length-offset.true)) in
+    rw (← c.strides-stride-items.ensures.value) there
+
+pub returns-then-length-offset-clause-few : goal.returns-then-length-offset-clause-few
+returns-then-length-offset-clause-few g c =
+    let p = planned g.A.Address.WIDTH c.strides-stride-items.result.now c.strides-stride-items.ensures.right in
+    omega (arith, p.few, c.loop-stride.invariant.each, c.loop-stride-test.true)

@@ -1,0 +1,3 @@
+mod Asked
+mod Few
+mod Feeds
