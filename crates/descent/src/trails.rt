@@ -1,4 +1,4 @@
-ghost use Rattle.std.specs.Prelude.{◌≡◌, ℕ, ◌+◌, ◌-◌, ◌<◌, ◌≤◌, List, [], None, length, drop, slice_index};
+ghost use Rattle.std.specs.Prelude.{IfErr, ◌≡◌, ℕ, ◌+◌, ◌-◌, ◌<◌, ◌≤◌, List, [], None, length, drop, slice_index};
 ghost use Rattle.model.specs.Outcomes.{outcome, granted};
 ghost use Rattle.model.specs.Placements.{Placement};
 ghost use Rattle.model.specs.Places.{indexes, position};
@@ -60,8 +60,27 @@ impl Trail {
 }
 
 /// Puts into a trail, whatever it had, the way to a prefix's node, as far as it goes, and what is held there. A child on it that is no node is
-/// refused by the memory; what the trail then has is not said. It is the caller's, so that it is not copied.
+/// refused by the memory, and then the trail is empty. It is the caller's, so that it is not copied.
 pub fn trail_to<A: Address, M: NodeRead>(
+    memory: &mut M,
+    plan: &Plan<A>,
+    prefix: SoundPrefix<A>,
+    trail: &mut Trail,
+) -> Result<(), Fault>
+    ensures any { outcome (λ _. trail_meant trail.new) result ≡ trailed (M.NodeRead.nodes memory.old) (strides_of plan.now) (prefix_bits A.Address.bits prefix.prefix) }
+    ensures shown { (routes : Routes) (at : Placement) → Shows A.Address.WIDTH (M.NodeRead.nodes memory.old) (strides_of plan.now) routes at → outcome (λ _. trail_meant trail.new) result ≡ granted (trail_in (strides_of plan.now) routes at (prefix_bits A.Address.bits prefix.prefix)) }
+    ensures refused { IfErr result (λ _. trail_meant trail.new ≡ record { nodes = []; indexes = []; position = 0; hop = None }) }
+    ensures still { M.NodeRead.still memory.old memory.new }
+{
+    let followed = follow_to(memory, plan, prefix, trail);
+    if followed.is_err() {
+        *trail = Trail::new();
+    }
+    followed
+}
+
+// The same, but that nothing is said of the trail where that is refused.
+fn follow_to<A: Address, M: NodeRead>(
     memory: &mut M,
     plan: &Plan<A>,
     prefix: SoundPrefix<A>,

@@ -7,7 +7,7 @@ use Rattle.walks.specs.Trails.{passed}
 use Rattle.walks.proofs.Trails.{trails_shown}
 use Rattle.descent.specs.Passing.{HopThere, readable}
 use Rattle.descent.proofs.Trailed.{trail_found, trail_refused}
-use Rattle.descent.proofs.trails.trail_to.Goals as goal
+use Rattle.descent.proofs.trails.follow_to.Goals as goal
 
 pub returns-clause-any : goal.returns-clause-any
 returns-clause-any g c =
