@@ -25,7 +25,7 @@ bool plain_feed(uint64_t *words, size_t words_len, const uint8_t *strides, size_
 
 // The proved one, of crates/feed.
 bool table_feed(uint64_t *words, size_t words_len, const uint8_t *strides, size_t strides_len,
-                   const uint64_t *calls, size_t calls_len, uint64_t *answers, size_t answers_len);
+                const uint64_t *calls, size_t calls_len, uint64_t *answers, size_t answers_len);
 
 static inline uint64_t call_of(unsigned asked, uint32_t address, unsigned length, unsigned hop)
 {
