@@ -1,7 +1,7 @@
 ghost use Rattle.std.specs.Prelude.{◌≡◌};
 ghost use Rattle.commands.specs.declared.command.Trouble.TheVariants.{Misread, NoMemory};
 
-use crate::words::{Word, Words};
+use crate::line::{Word, Words};
 use address::Address;
 use address::prefix::Prefix;
 use replies::kind::Kind;

@@ -4,5 +4,5 @@
 mod command;
 pub mod console;
 mod drawing;
+mod line;
 mod session;
-mod words;

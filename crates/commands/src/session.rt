@@ -15,7 +15,7 @@ ghost use Rattle.commands.specs.declared.command.Command.TheVariants.{Insert, De
 
 use crate::command::{Command, HELP, Trouble, read_command};
 use crate::drawing::draw;
-use crate::words::Words;
+use crate::line::Words;
 use address::Address;
 use address::prefix::Prefix;
 use buffer::Buffer;

@@ -1,7 +1,7 @@
 use Rattle.std.proofs.Common.{◌≡◌, ◌+◌, ◌∙◌, sym, refl}
 use Rattle.commands.proofs.Found.{only_blanks, end_of, word_found}
-use Rattle.commands.proofs.words.WordsIterator.next.Goals as goal
-use Rattle.commands.proofs.words.WordsIterator.next.Goals.{in-Some, in-None}
+use Rattle.commands.proofs.line.WordsIterator.next.Goals as goal
+use Rattle.commands.proofs.line.WordsIterator.next.Goals.{in-Some, in-None}
 
 pub returns-in_err-start-clause-steps : goal.returns-in_err-start-clause-steps
 returns-in_err-start-clause-steps c =
