@@ -3,4 +3,4 @@ pub mod Lines
 pub mod Stands
 pub mod Commands
 pub mod Replies
-pub mod Switching
+pub mod Agreement

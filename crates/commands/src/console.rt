@@ -1,7 +1,7 @@
 ghost use Rattle.std.specs.Prelude.{◌≡◌, IfOk};
 ghost use Rattle.replies.specs.Counted.{counted};
 ghost use Rattle.commands.specs.Replies.{Undisputed};
-ghost use Rattle.commands.specs.Switching.{BothAgree};
+ghost use Rattle.commands.specs.Agreement.{BothAgree};
 
 use crate::session::{answer, shut_pair};
 use address::ipv4::Ipv4;

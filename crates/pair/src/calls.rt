@@ -4,6 +4,7 @@ ghost use Rattle.model.specs.Calls as calls;
 ghost use Rattle.model.specs.Calls.{hop_is, opened, route_is, shut};
 ghost use Rattle.reference.specs.Shown.{answer_of, count_answer, delete_answer, insert_answer, left_of, match_answer, shown};
 ghost use Rattle.routes.specs.Meant.{meant};
+ghost use Rattle.table.specs.Stands.{Still};
 ghost use Rattle.pair.specs.Agree.{Agree};
 ghost use Rattle.pair.specs.Told.{Same, Tells, left};
 
@@ -37,6 +38,7 @@ impl<A: Address, M: NodeWrite> Pair<A, M> {
         ensures after { shown self.new.list ≡ left_of A.Address.WIDTH self.old.list (calls.open_with strides.now) }
         ensures size { self.new.list.nodes ≡ self.old.list.nodes }
         ensures agree { Agree M.NodeRead.nodes A.Address.WIDTH self.old → Agree M.NodeRead.nodes A.Address.WIDTH self.new × Same result }
+        ensures always { M.NodeRead.always self.old.table.memory self.new.table.memory }
     {
         let said = self.list.open(strides);
         compared(said, self.table.open(strides))
@@ -49,6 +51,7 @@ impl<A: Address, M: NodeWrite> Pair<A, M> {
         ensures after { shown self.new.list ≡ left result (shown self.old.list) (left_of A.Address.WIDTH self.old.list (calls.insert (A.Address.bits prefix.address) prefix.length hop)) }
         ensures size { self.new.list.nodes ≡ self.old.list.nodes }
         ensures agree { Agree M.NodeRead.nodes A.Address.WIDTH self.old → Agree M.NodeRead.nodes A.Address.WIDTH self.new × Same result }
+        ensures always { M.NodeRead.always self.old.table.memory self.new.table.memory }
     {
         let said = settled(self.list.insert(prefix, hop))?;
         compared(said, self.table.insert(prefix, hop))
@@ -60,6 +63,7 @@ impl<A: Address, M: NodeWrite> Pair<A, M> {
         ensures after { shown self.new.list ≡ left_of A.Address.WIDTH self.old.list (calls.delete (A.Address.bits prefix.address) prefix.length) }
         ensures size { self.new.list.nodes ≡ self.old.list.nodes }
         ensures agree { Agree M.NodeRead.nodes A.Address.WIDTH self.old → Agree M.NodeRead.nodes A.Address.WIDTH self.new × Same result }
+        ensures always { M.NodeRead.always self.old.table.memory self.new.table.memory }
     {
         let said = self.list.delete(prefix);
         compared(said, self.table.delete(prefix))
@@ -70,6 +74,7 @@ impl<A: Address, M: NodeWrite> Pair<A, M> {
         ensures answer { Tells (match_answer A.Address.bits) result (answer_of A.Address.WIDTH self.old.list (calls.lookup (A.Address.bits address))) }
         ensures list { self.new.list ≡ self.old.list }
         ensures agree { Agree M.NodeRead.nodes A.Address.WIDTH self.old → Agree M.NodeRead.nodes A.Address.WIDTH self.new × Same result }
+        ensures still { Still M.NodeRead.still self.old.table self.new.table }
     {
         let said = self.list.lookup(address);
         compared(said, self.table.lookup(address))
@@ -80,6 +85,7 @@ impl<A: Address, M: NodeWrite> Pair<A, M> {
         ensures answer { Tells (λ hop. hop_is hop) result (answer_of A.Address.WIDTH self.old.list (calls.exact (A.Address.bits prefix.address) prefix.length)) }
         ensures list { self.new.list ≡ self.old.list }
         ensures agree { Agree M.NodeRead.nodes A.Address.WIDTH self.old → Agree M.NodeRead.nodes A.Address.WIDTH self.new × Same result }
+        ensures still { Still M.NodeRead.still self.old.table self.new.table }
     {
         let said = self.list.exact(prefix);
         compared(said, self.table.exact(prefix))
@@ -90,6 +96,7 @@ impl<A: Address, M: NodeWrite> Pair<A, M> {
         ensures answer { Tells (λ found. route_is (option_map (meant A.Address.bits) found)) result (answer_of A.Address.WIDTH self.old.list (calls.first)) }
         ensures list { self.new.list ≡ self.old.list }
         ensures agree { Agree M.NodeRead.nodes A.Address.WIDTH self.old → Agree M.NodeRead.nodes A.Address.WIDTH self.new × Same result }
+        ensures still { Still M.NodeRead.still self.old.table self.new.table }
     {
         let said = self.list.first();
         compared(said, self.table.first())
@@ -100,6 +107,7 @@ impl<A: Address, M: NodeWrite> Pair<A, M> {
         ensures answer { Tells (λ found. route_is (option_map (meant A.Address.bits) found)) result (answer_of A.Address.WIDTH self.old.list (calls.next (A.Address.bits prefix.address) prefix.length)) }
         ensures list { self.new.list ≡ self.old.list }
         ensures agree { Agree M.NodeRead.nodes A.Address.WIDTH self.old → Agree M.NodeRead.nodes A.Address.WIDTH self.new × Same result }
+        ensures still { Still M.NodeRead.still self.old.table self.new.table }
     {
         let said = self.list.next(prefix);
         compared(said, self.table.next(prefix))
@@ -110,6 +118,7 @@ impl<A: Address, M: NodeWrite> Pair<A, M> {
         ensures answer { Tells count_answer result (answer_of A.Address.WIDTH self.old.list (calls.counts)) }
         ensures list { self.new.list ≡ self.old.list }
         ensures agree { Agree M.NodeRead.nodes A.Address.WIDTH self.old → Agree M.NodeRead.nodes A.Address.WIDTH self.new × Same result }
+        ensures still { Still M.NodeRead.still self.old.table self.new.table }
     {
         let said = self.list.counts();
         compared(said, self.table.counts())

@@ -1,4 +1,4 @@
--- The engines of the kind of address that is in use.
+-- That both engines of the kind of address in use agree.
 use Rattle.commands.specs.Stands.{Agreed}
 use Rattle.commands.specs.declared.console.Engines.{Engines}
 use Rattle.commands.specs.declared.console.Engines.TheVariants.{Ipv4, Ipv6}
