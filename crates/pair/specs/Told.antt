@@ -27,3 +27,10 @@ left (Ok x) was then = then
 left (Err (Refused f)) was then = then
 left (Err NoMemory) was then = was
 left (Err Differ) was then = then
+
+-- what holds of a call that both refused, or that was not put to the table
+abbrev pub OnRefusal : {T : Type 0} → Result T Failed → Type 0 → Type 0
+OnRefusal (Ok x) P = ⊤
+OnRefusal (Err (Refused f)) P = P
+OnRefusal (Err NoMemory) P = P
+OnRefusal (Err Differ) P = ⊤

@@ -1,9 +1,9 @@
-ghost use Rattle.std.specs.Prelude.{◌≡◌, ◌≢◌, true, Err, IfOk, MatchResult};
+ghost use Rattle.std.specs.Prelude.{◌≡◌, ◌≢◌, true, Err, IfOk, IsErr, MatchResult};
 ghost use Rattle.model.specs.Calls.{Answer, Plain};
 ghost use Rattle.model.specs.Outcomes.{Outcome, outcome};
 ghost use Rattle.routes.specs.Answered.{Says, leaves};
 ghost use Rattle.routes.specs.declared.failure.Failure.TheVariants.{NoMemory as NoRoom};
-ghost use Rattle.pair.specs.Told.{Same, Tells};
+ghost use Rattle.pair.specs.Told.{OnRefusal, Same, Tells};
 ghost use Rattle.pair.specs.declared.failed.Failed.TheVariants.{NoMemory};
 
 use crate::Failed;
@@ -43,6 +43,7 @@ pub(crate) fn compared<U: Drop, T: Alike<U> + Drop>(
     ensures list { Tells T.Alike.told result (outcome T.Alike.told said) }
     ensures table { Tells T.Alike.told result (outcome T.Alike.beside beside) }
     ensures asked { result ≢ Err NoMemory }
+    ensures refused { OnRefusal result (IsErr beside) }
     ensures same { outcome T.Alike.told said ≡ outcome T.Alike.beside beside → Same result }
 {
     match (said, beside) {
