@@ -1,13 +1,15 @@
 -- Bytes put into an output, one behind the other.
-use Rattle.std.proofs.Common.{◌≡◌, ℕ, ◌+◌, ◌-◌, ◌*◌, ◌^◌, ◌<◌, ◌≤◌, [], ◌∷◌, ◌++◌, length, take, drop, sym, refl, ap, ap₂, ◌∙◌, subst, arith, drop-drop, mod-eq_of_lt, zero, suc, false, replicate, take_all, append_assoc, add-zero, add-one, length-append, take-append-drop, length-take-le, slice_set, get_or, le-leb}
+use Rattle.std.proofs.Common.{◌≡◌, ℕ, ◌+◌, ◌-◌, ◌*◌, ◌^◌, ◌<◌, ◌≤◌, [], ◌∷◌, ◌++◌, length, take, drop, sym, refl, ap, ap₂, ◌∙◌, subst, arith, drop-drop, mod-eq_of_lt, zero, suc, false, replicate, take_all, append_assoc, take_at, drop_at, add-zero, add-one, length-append, take-append-drop, length-take-le, slice_set, get_or, le-leb}
 use Rattle.std.proofs.lemmas.Bool.{lt-leb}
 use Rattle.std.proofs.lemmas.List.{drop-append-le, set-append_right}
 use Rattle.std.proofs.Math.Seq.{drop-cons, set-append_seam}
 use lib.ListN.{length-replicate, replicate-append-replicate}
 use Rattle.bits.specs.Order.{Sound}
-use Rattle.model.specs.Bytes.{Bytes, byte_count, pack, prefix_bytes}
+use Rattle.model.specs.Bytes.{Bytes, big_endian, byte_count, pack, prefix_bytes}
 use Rattle.faults.specs.declared.Layer.TheVariants.{Table}
 use Rattle.faults.specs.Numbers.{too_narrow}
+use Rattle.model.specs.Routes.{route}
+use Rattle.model.specs.Sheets.{route_bytes}
 use Rattle.model.specs.Outcomes.{granted, refused}
 use Rattle.messages.specs.Puts.{beside, put_at, put_in}
 use Rattle.laws.proofs.Digits.{length_pack}
@@ -95,9 +97,6 @@ module _ (address : Bits) (len : ℕ) (s : Sound address len) (place : ℕ) (out
       let long = length-take-le len address s.0 in
       ap suc (length_pack (byte_count (length (take len address))) (take len address)) ∙ ap (λ (l : ℕ). suc (byte_count l)) long ∙ omega arith
 
-  pub no_room : (size : ℕ) → size ≡ 1 + byte_count len → length output < place + size → put_in place bytes output ≡ refused too_narrow Table 0
-  no_room size e short = let l = prefix_long in rw (lt-leb (place + length bytes) (length output) (omega arith))
-
   pub length_put : place + 1 ≤ length output → slice_set output place len ≡ put_at place (len ∷ []) output
   length_put room =
       let at : place ≡ place + 0 = omega arith in
@@ -116,14 +115,55 @@ module _ (address : Bits) (len : ℕ) (s : Sound address len) (place : ℕ) (out
       ∙ ap (λ (x : ℕ). put_at place (len ∷ (pack i p ++ (x ∷ []))) output) (value ∙ ap number (byte_of_prefix address len (8 * i) s (omega arith)))
       ∙ ap (λ (r : Bytes). put_at place (len ∷ r) output) (sym (pack_more i p) ∙ ap (λ (k : ℕ). pack k p) (sym (add-one i)))
 
-  pub all_put : (i size : ℕ) (now : Bytes) → now ≡ put_at place (len ∷ pack i (take len address)) output → i ≡ byte_count len → size ≡ 1 + byte_count len
-      → place + size ≤ length output → granted (beside now (place + size)) ≡ put_in place bytes output
+  pub all_put : (i : ℕ) (now : Bytes) → now ≡ put_at place (len ∷ pack i (take len address)) output → i ≡ byte_count len → now ≡ put_at place bytes output
   unfolding prefix_bytes
-  all_put i size now is whole e room =
-      let l = prefix_long in
+  all_put i now is whole =
       let long = length-take-le len address s.0 in
-      let same : len ∷ pack i (take len address) ≡ bytes =
-      ap₂ (λ (x y : ℕ). x ∷ pack y (take len address)) (sym long) (whole ∙ ap byte_count (sym long)) in
-      let ends : place + size ≡ place + length bytes = omega arith in
-      rw (le-leb (place + length bytes) (length output) (omega arith))
-      (ap₂ (λ (o : Bytes) (k : ℕ). granted (k, o)) (is ∙ ap (λ (r : Bytes). put_at place r output) same) ends)
+      is ∙ ap₂ (λ (x y : ℕ). put_at place (x ∷ pack y (take len address)) output) (sym long) (whole ∙ ap byte_count (sym long))
+
+-- one behind the other
+pub put_both : (place : ℕ) (xs ys output : Bytes) → place + length xs + length ys ≤ length output
+    → put_at (place + length xs) ys (put_at place xs output) ≡ put_at place (xs ++ ys) output
+put_both place xs ys output room =
+    let front = length-take-le place output (omega arith) in
+    let both = length-append (take place output) xs in
+    let rest = drop (place + length xs) output in
+    let all = length-append xs ys in
+    let end : place + length xs + length ys ≡ place + length (xs ++ ys) = omega arith in
+    let apart : put_at place xs output ≡ (take place output ++ xs) ++ rest = sym (append_assoc (take place output) xs rest) in
+    ap (put_at (place + length xs) ys) apart
+    ∙ ap₂ (λ (a b : Bytes). a ++ (ys ++ b)) (take_at (take place output ++ xs) rest (place + length xs) (omega arith))
+    (sym (drop-drop (length ys) (place + length xs) ((take place output ++ xs) ++ rest))
+    ∙ ap (drop (length ys)) (drop_at (take place output ++ xs) rest (place + length xs) (omega arith))
+    ∙ drop-drop (length ys) (place + length xs) output
+    ∙ ap (λ (k : ℕ). drop k output) end)
+    ∙ append_assoc (take place output) xs (ys ++ drop (place + length (xs ++ ys)) output)
+    ∙ ap (λ (r : Bytes). take place output ++ r) (sym (append_assoc xs ys (drop (place + length (xs ++ ys)) output)))
+
+-- a route: its prefix, and its hop behind that
+module _ (place size hop : ℕ) (p : Bits) (output : Bytes) (long : size ≡ 3 + byte_count (length p)) where
+  route_long : length (route_bytes (route p hop)) ≡ size
+  unfolding route_bytes prefix_bytes
+  route_long =
+      let packed = length_pack (byte_count (length p)) p in
+      let both = length-append (pack (byte_count (length p)) p) (big_endian 2 hop) in
+      omega arith
+
+  pub no_room : length output < place + size → put_in place (route_bytes (route p hop)) output ≡ refused too_narrow Table 0
+  no_room short = let l = route_long in rw (lt-leb (place + length (route_bytes (route p hop))) (length output) (omega arith))
+
+  pub route_put : place + size ≤ length output → (now final : Bytes) → now ≡ put_at place (prefix_bytes p) output
+      → final ≡ put_at (place + size - 2) (big_endian 2 hop) now
+      → granted (beside final (place + size)) ≡ put_in place (route_bytes (route p hop)) output
+  unfolding route_bytes
+  route_put room now final prefix behind =
+      let l = route_long in
+      let both = length-append (prefix_bytes p) (big_endian 2 hop) in
+      let at : place + size - 2 ≡ place + length (prefix_bytes p) = omega arith in
+      let end : place + size ≡ place + length (route_bytes (route p hop)) = omega arith in
+      rw (le-leb (place + length (route_bytes (route p hop))) (length output) (omega arith))
+      (ap₂ (λ (o : Bytes) (k : ℕ). granted (k, o))
+      (behind
+      ∙ ap₂ (λ (k : ℕ) (o : Bytes). put_at k (big_endian 2 hop) o) at prefix
+      ∙ put_both place (prefix_bytes p) (big_endian 2 hop) output (omega arith))
+      end)

@@ -1,4 +1,4 @@
-ghost use Rattle.std.specs.Prelude.{◌≡◌, ◌≤◌, length, ⊤, IfErr};
+ghost use Rattle.std.specs.Prelude.{◌≡◌, ◌≤◌, length, IfErr};
 ghost use Rattle.model.specs.Outcomes.{outcome};
 ghost use Rattle.model.specs.Reading as reading;
 ghost use Rattle.model.specs.Sheets.{read_prefix};
@@ -8,26 +8,14 @@ use crate::fault;
 use crate::prefix::PrefixBytes;
 use address::Address;
 use faults::{Fault, Refusal};
-use std::alloc::AllocError;
 
 /// Lent bytes, and the place of the next one to be read.
+#[derive(Clone, Copy)]
 pub struct Reader<'a> {
     bytes: &'a [u8],
     place: usize,
     ghost within: { place ≤ length bytes.now },
 }
-
-impl<'a> Clone for Reader<'a> {
-    ghost is_clone = { λ a b. b ≡ a };
-
-    ghost is_infallible = { λ _. ⊤ };
-
-    fn clone(&self) -> Result<Self, AllocError> {
-        Ok(*self)
-    }
-}
-
-impl<'a> Copy for Reader<'a> {}
 
 impl<'a> Reader<'a> {
     /// At the first of these bytes.
