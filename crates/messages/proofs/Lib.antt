@@ -1,2 +1,2 @@
-mod Rows
-mod Puts
+pub mod Rows
+pub mod Puts

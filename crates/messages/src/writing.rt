@@ -47,7 +47,11 @@ pub fn route_size(length: u32) -> usize
 }
 
 /// Puts a route into an output, from a place on, and answers the place behind it. Refused as *narrow* where it does not fit.
-pub fn put_route<A: Address>(output: &mut [u8], place: usize, route: &Route<A>) -> Result<usize, Fault>
+pub fn put_route<A: Address>(
+    output: &mut [u8],
+    place: usize,
+    route: &Route<A>,
+) -> Result<usize, Fault>
     ensures answer { outcome (beside output.new) result ≡ put_in place (route_bytes (meant A.Address.bits route.now)) output.old }
     ensures refused { IfErr result (λ _. output.new ≡ output.old) }
 {

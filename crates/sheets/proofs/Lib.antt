@@ -1,0 +1,5 @@
+mod Behind
+mod Counting
+mod Putting
+mod Series
+mod Steps

@@ -1,12 +1,11 @@
 -- The sheet of the definitions that a sheet of the code stands for: its routes are those that the definitions read from its place on.
-use Rattle.std.specs.Prelude.{ℕ, List, []}
+use Rattle.std.specs.Prelude.{ℕ, List, [], ◌∷◌, Option, Some, None}
 use Rattle.std.specs.Option.{option_map}
 use Rattle.address.specs.declared.Address.{Ghosts}
-use Rattle.bits.specs.Rows.{Bits}
 use Rattle.model.specs.Outcomes.{Outcome, and_then, granted, refused}
 use Rattle.model.specs.Reading.{series}
 use Rattle.model.specs.Required.{required}
-use Rattle.model.specs.Routes.{Routes as Plain}
+use Rattle.model.specs.Routes.{Route, Routes as Plain}
 use Rattle.model.specs.Sheets.{Sheet as Meant, read_route}
 use Rattle.routes.specs.Meant.{meant}
 use Rattle.sheets.specs.declared.Routes.{Routes}
@@ -16,6 +15,12 @@ use Rattle.sheets.specs.declared.Sheet.{Sheet}
 abbrev pub read_or_none : Outcome (Plain × ℕ) → Plain
 read_or_none (granted got) = got.0
 read_or_none (refused number layer place) = []
+
+-- the last of some routes
+abbrev pub last_of : Plain → Option Route
+last_of [] = None
+last_of (r ∷ []) = Some r
+last_of (r ∷ s ∷ rs) = last_of (s ∷ rs)
 
 -- routes that are read, as how many nodes they require, and the place behind them
 abbrev pub count_read : List ℕ → Outcome (Plain × ℕ) → Outcome (ℕ × ℕ)

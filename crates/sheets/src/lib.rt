@@ -6,8 +6,9 @@ use address::Address;
 use messages::reader::Reader;
 use routes::Route;
 
-mod required;
 pub mod read;
+mod required;
+pub mod write;
 
 /// The largest number of a message.
 pub const LAST_NUMBER: u64 = 1 << 62;

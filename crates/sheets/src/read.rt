@@ -1,6 +1,7 @@
 ghost use Rattle.std.specs.Prelude.{◌≡◌, ℕ, None, Some, length, IfErr, IfOk};
 ghost use Rattle.std.specs.Option.{option_map};
 ghost use Rattle.model.specs.Outcomes.{granted, outcome};
+ghost use Rattle.model.specs.Plans as plans;
 ghost use Rattle.model.specs.Reading.{series};
 ghost use Rattle.model.specs.Required.{required};
 ghost use Rattle.model.specs.Sheets as sheets;
@@ -28,6 +29,13 @@ fn ascends<A: Address>(last: &Option<Route<A>>, route: &Route<A>) -> bool
         Some(last) => last.prefix.compare(&route.prefix) == Ordering::Less,
         None => true,
     }
+}
+
+// Whether two lists of strides are the same.
+fn same_strides(some: &[u8], others: &[u8]) -> bool
+    ensures { result ≡ plans.same_strides some.now others.now }
+{
+    some == others
 }
 
 impl<'a, A: Address> Routes<'a, A> {
@@ -73,15 +81,12 @@ impl<'a, A: Address> Routes<'a, A> {
 }
 
 impl<'a, A: Address> Sheet<'a, A> {
-    /// The sheet that these bytes are, for a table of this plan. Refused in the order of its fields, each at its place: *number* where it is above 2^62;
-    /// *strides*, at their count, where they are not the plan's; *length*, *stray*, *hop* and *order* in a route; *cut* where the bytes end early, and last
-    /// where some are left over.
-    pub fn read(bytes: &'a [u8], plan: &Plan<A>) -> Result<Sheet<'a, A>, Fault>
+    // The sheet, field by field.
+    #[tactic(auto, unfolding(model::specs::Sheets::read_sheet, model::specs::Sheets::sheet))]
+    fn read_fields(bytes: &'a [u8], plan: &Plan<A>) -> Result<Sheet<'a, A>, Fault>
         ensures read { outcome (held A.Address.WIDTH) result ≡ read_sheet A.Address.WIDTH (strides_of plan.now) bytes.now }
         ensures required { IfOk result (λ s. s.required ≡ required (strides_of plan.now) (held A.Address.WIDTH s).routes) }
         ensures routes { IfOk result (λ s. (s.routes.last ≡ None) × (to_read A.Address.WIDTH s.count s.routes ≡ granted ((held A.Address.WIDTH s).routes, length bytes.now))) }
-        ensures ordered { IfOk result (λ s. InOrder A.Address.WIDTH (held A.Address.WIDTH s).routes) }
-        ensures written { IfOk result (λ s. sheet_bytes s.number (strides_of plan.now) (held A.Address.WIDTH s).routes ≡ bytes.now) }
     {
         let mut reader = Reader::new(bytes);
         let number = reader.get_u64()?;
@@ -90,7 +95,7 @@ impl<'a, A: Address> Sheet<'a, A> {
         }
         let place = reader.place();
         let strides = reader.get_u8()?;
-        if reader.take(strides as usize)? != plan.strides() {
+        if !same_strides(reader.take(strides as usize)?, plan.strides()) {
             return Err(fault(Refusal::Strides, place));
         }
         let count = reader.get_u32()?;
@@ -104,5 +109,18 @@ impl<'a, A: Address> Sheet<'a, A> {
             required,
             routes,
         })
+    }
+
+    /// The sheet that these bytes are, for a table of this plan. Refused in the order of its fields, each at its place: *number* where it is above 2^62;
+    /// *strides*, at their count, where they are not the plan's; *length*, *stray*, *hop* and *order* in a route; *cut* where the bytes end early, and last
+    /// where some are left over.
+    pub fn read(bytes: &'a [u8], plan: &Plan<A>) -> Result<Sheet<'a, A>, Fault>
+        ensures read { outcome (held A.Address.WIDTH) result ≡ read_sheet A.Address.WIDTH (strides_of plan.now) bytes.now }
+        ensures required { IfOk result (λ s. s.required ≡ required (strides_of plan.now) (held A.Address.WIDTH s).routes) }
+        ensures routes { IfOk result (λ s. (s.routes.last ≡ None) × (to_read A.Address.WIDTH s.count s.routes ≡ granted ((held A.Address.WIDTH s).routes, length bytes.now))) }
+        ensures ordered { IfOk result (λ s. InOrder A.Address.WIDTH (held A.Address.WIDTH s).routes) }
+        ensures written { IfOk result (λ s. sheet_bytes s.number (strides_of plan.now) (held A.Address.WIDTH s).routes ≡ bytes.now) }
+    {
+        Sheet::read_fields(bytes, plan)
     }
 }

@@ -1,4 +1,4 @@
-use Rattle.std.proofs.Common.{◌≡◌, arith}
+use Rattle.std.proofs.Common.{arith}
 use Rattle.messages.proofs.Puts.{all_put, byte_put, length_put}
 use Rattle.messages.proofs.writing.put_prefix.Goals as goal
 

@@ -3,7 +3,6 @@ use Rattle.std.proofs.lemmas.Bool.{leb-false}
 use borrow.Rule.Slice.PartMut.{put_mid}
 use Rattle.faults.specs.declared.Fault.{Fault}
 use Rattle.faults.specs.Numbers.{number_of}
-use Rattle.bits.specs.Rows.{Bits}
 use Rattle.model.specs.Bytes.{Bytes, big_endian, byte_count}
 use Rattle.model.specs.Outcomes.{refused}
 use Rattle.routes.specs.Meant.{prefix_bits}
