@@ -14,8 +14,8 @@ use Rattle.faults.specs.declared.Fault.{Fault}
 use Rattle.model.specs.Outcomes.{is_granted, outcome}
 use Rattle.model.specs.Calls.{Answer, Plain, after, after_all, answer}
 use Rattle.model.specs.Placements.{Placement}
-use Rattle.table.specs.Placed.{placed}
-use Rattle.feed.specs.Fed.{Answered, call_of, list_after, placed_all, told}
+use Rattle.table.specs.Placed.{placed, placed_all}
+use Rattle.feed.specs.Fed.{Answered, call_of, list_after, told}
 
 module _ (W N : ℕ) where
   list_suc : (plain : Plain) (calls : List ℕ) (k : ℕ) → k < length calls

@@ -5,7 +5,7 @@ use Rattle.model.specs.Calls.{Answer, Call, Plain, after, after_all, answer, cou
 use Rattle.model.specs.Outcomes.{Outcome, granted, refused}
 use Rattle.model.specs.Placements.{Placement, opened_placement}
 use Rattle.model.specs.Routes.{Route, Routes}
-use Rattle.table.specs.Placed.{placed}
+use Rattle.table.specs.Placed.{placed_all}
 
 -- ---- calls
 
@@ -23,10 +23,6 @@ abbrev pub list_after : ℕ → List ℕ → List ℕ → Plain
 list_after N strides calls = after_all 32 N (holding strides []) (map call_of calls)
 
 -- and the placement that the rules give
-abbrev pub placed_all : ℕ → ℕ → Plain → Placement → List Call → Placement
-placed_all W N plain at [] = at
-placed_all W N plain at (call ∷ calls) = placed_all W N (after W N plain call) (placed W N plain at call) calls
-
 abbrev pub placement_after : ℕ → List ℕ → List ℕ → Placement
 placement_after N strides calls = placed_all 32 N (holding strides []) (opened_placement N) (map call_of calls)
 

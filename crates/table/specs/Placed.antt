@@ -1,7 +1,7 @@
 -- The placement that the rules give after a call: newly required paths take nodes from the front of the chain, the one nearest the root first, and
 -- the nodes of paths no longer required go back to it, the deepest first.
-use Rattle.std.specs.Prelude.{ℕ, cond}
-use Rattle.model.specs.Calls.{Call, Plain, counts, delete, exact, first, holding, insert, load, lookup, next, open_with, perform, shut, write}
+use Rattle.std.specs.Prelude.{ℕ, cond, List, [], ◌∷◌}
+use Rattle.model.specs.Calls.{Call, Plain, after, counts, delete, exact, first, holding, insert, load, lookup, next, open_with, perform, shut, write}
 use Rattle.model.specs.Outcomes.{is_granted}
 use Rattle.model.specs.Placements.{Placement, after_delete, after_insert, opened_placement}
 use Rattle.model.specs.Routes.{prefix_of, without}
@@ -24,3 +24,8 @@ granted_placement N plain (load message) at = at
 -- a refused call leaves it
 abbrev pub placed : ℕ → ℕ → Plain → Placement → Call → Placement
 placed W N plain at call = cond (is_granted (perform W N plain call)) (granted_placement N plain call at) at
+
+-- after a list of calls, refused ones included
+abbrev pub placed_all : ℕ → ℕ → Plain → Placement → List Call → Placement
+placed_all W N plain at [] = at
+placed_all W N plain at (call ∷ calls) = placed_all W N (after W N plain call) (placed W N plain at call) calls

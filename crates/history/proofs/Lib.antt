@@ -1,0 +1,4 @@
+mod Feeding
+mod Meeting
+mod Runs
+mod Uses

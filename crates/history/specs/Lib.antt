@@ -1,0 +1,4 @@
+pub mod Asked
+pub mod Runs
+pub mod Uses
+pub mod Twins
