@@ -8,6 +8,7 @@ use plan::Plan;
 
 mod deleting;
 mod inserting;
+mod loading;
 mod memory;
 mod opening;
 mod reading;
