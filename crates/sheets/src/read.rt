@@ -87,6 +87,7 @@ impl<'a, A: Address> Sheet<'a, A> {
         ensures read { outcome (held A.Address.WIDTH) result ≡ read_sheet A.Address.WIDTH (strides_of plan.now) bytes.now }
         ensures required { IfOk result (λ s. s.required ≡ required (strides_of plan.now) (held A.Address.WIDTH s).routes) }
         ensures routes { IfOk result (λ s. (s.routes.last ≡ None) × (to_read A.Address.WIDTH s.count s.routes ≡ granted ((held A.Address.WIDTH s).routes, length bytes.now))) }
+        ensures lent { IfOk result (λ s. s.routes.reader.bytes.now ≡ bytes.now) }
     {
         let mut reader = Reader::new(bytes);
         let number = reader.get_u64()?;
@@ -118,6 +119,7 @@ impl<'a, A: Address> Sheet<'a, A> {
         ensures read { outcome (held A.Address.WIDTH) result ≡ read_sheet A.Address.WIDTH (strides_of plan.now) bytes.now }
         ensures required { IfOk result (λ s. s.required ≡ required (strides_of plan.now) (held A.Address.WIDTH s).routes) }
         ensures routes { IfOk result (λ s. (s.routes.last ≡ None) × (to_read A.Address.WIDTH s.count s.routes ≡ granted ((held A.Address.WIDTH s).routes, length bytes.now))) }
+        ensures lent { IfOk result (λ s. s.routes.reader.bytes.now ≡ bytes.now) }
         ensures ordered { IfOk result (λ s. InOrder A.Address.WIDTH (held A.Address.WIDTH s).routes) }
         ensures written { IfOk result (λ s. sheet_bytes s.number (strides_of plan.now) (held A.Address.WIDTH s).routes ≡ bytes.now) }
     {
