@@ -3,3 +3,4 @@ pub mod Growing
 pub mod Steps
 pub mod Deletions
 pub mod Insertions
+pub mod Writings
