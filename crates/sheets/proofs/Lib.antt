@@ -1,5 +1,5 @@
 mod Behind
 mod Counting
-mod Putting
+pub mod Putting
 mod Series
 mod Steps

@@ -62,7 +62,7 @@ pub record Found (W : ℕ) (nodes : Nodes) (s : List ℕ) (chain count needs : �
   pub counted : count ≡ length routes
   pub requires : needs ≡ required s routes
 
-found : {W : ℕ} {nodes : Nodes} {strides : Option (List ℕ)} {s : List ℕ} {chain count needs : ℕ} → strides ≡ Some s
+pub found : {W : ℕ} {nodes : Nodes} {strides : Option (List ℕ)} {s : List ℕ} {chain count needs : ℕ} → strides ≡ Some s
     → (plain : Plain) (at : Placement) → StandsFor W nodes strides chain count needs plain at → Found W nodes s chain count needs plain at
 found {s = s} planned shut at stands = let wrong : Some s ≡ None = sym planned ∙ stands in cc
 found {W = W} {nodes = nodes} {s = s} planned (holding plan routes) at stands =

@@ -3,4 +3,5 @@ pub mod Growing
 pub mod Steps
 pub mod Deletions
 pub mod Insertions
-mod Loadings
+pub mod Loadings
+pub mod Writings

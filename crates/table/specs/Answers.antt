@@ -5,7 +5,8 @@ use Rattle.address.specs.declared.Address.{Ghosts}
 use Rattle.bits.specs.Rows.{Bits}
 use Rattle.faults.specs.Numbers.{not_open}
 use Rattle.faults.specs.declared.Layer.TheVariants.{Table}
-use Rattle.model.specs.Calls.{Answer, Plain, counted, deleted, holding, inserted, matched, shut}
+use Rattle.model.specs.Bytes.{Bytes}
+use Rattle.model.specs.Calls.{Answer, Plain, counted, deleted, holding, inserted, matched, shut, written}
 use Rattle.model.specs.Outcomes.{Outcome, granted, refused}
 use Rattle.model.specs.Placements.{Placement, front}
 use Rattle.descent.specs.Meant.{held_route}
@@ -26,6 +27,10 @@ delete_answer x = deleted x.hop x.returned
 
 abbrev pub count_answer : Counted → Answer
 count_answer x = counted x.routes x.required x.free
+
+-- the length of the sheet, beside the output as it is then
+abbrev pub written_answer : Bytes → ℕ → Answer
+written_answer output n = written n output
 
 -- the strides of the plan of an open list
 abbrev pub plan_answer : Plain → Option (List ℕ)

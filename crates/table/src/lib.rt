@@ -12,6 +12,7 @@ mod loading;
 mod memory;
 mod opening;
 mod reading;
+mod writing;
 
 /// A table over a memory, which it keeps: shut while it has no plan. Beside the memory it keeps the front of the chain of free nodes, and how many
 /// routes and how many required nodes there are.

@@ -1,0 +1,20 @@
+use Rattle.std.proofs.Common.{◌≡◌, ◌+◌, drop, length, nat_le}
+use Rattle.std.specs.Option.{option_map}
+use Rattle.model.specs.Placements.{Placement}
+use Rattle.model.specs.Routes.{Routes, smallest}
+use Rattle.model.specs.Sheets.{routes_bytes}
+use Rattle.plan.specs.Strides.{strides_of}
+use Rattle.walks.specs.Shows.{Shows}
+use Rattle.descent.specs.Meant.{held_route}
+use Rattle.table.proofs.writing.has_room.Given as goal
+
+-- what was found is the next of the routes that are left, which have to fit what is left
+abbrev pub invariant-loop : goal.invariant-loop
+invariant-loop g l =
+    record {
+      still : g.M.NodeRead.still l.fn.memory l.memory;
+      found : (routes : Routes) (at : Placement) → Shows g.A.Address.WIDTH (g.M.NodeRead.nodes l.fn.memory) (strides_of l.fn.plan) routes at
+          → option_map (held_route g.A.Address.bits) l.next ≡ smallest (drop l.counter routes);
+      fits : (routes : Routes) (at : Placement) → Shows g.A.Address.WIDTH (g.M.NodeRead.nodes l.fn.memory) (strides_of l.fn.plan) routes at
+          → nat_le (l.head + length (routes_bytes routes)) l.fn.room ≡ nat_le (length (routes_bytes (drop l.counter routes))) l.left;
+    }
