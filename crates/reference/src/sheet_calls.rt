@@ -1,11 +1,11 @@
-ghost use Rattle.std.specs.Prelude.{◌≡◌, true, IfErr, MatchResult};
+ghost use Rattle.std.specs.Prelude.{◌≡◌, ◌≤◌, true, Err, IfErr, MatchResult};
 ghost use Rattle.model.specs.Calls.{write, load, loaded};
 ghost use Rattle.model.specs.Outcomes.{is_granted, outcome};
 ghost use Rattle.routes.specs.declared.failure.Failure.TheVariants.{NoMemory};
 ghost use Rattle.routes.specs.Answered.{Says, leaves};
 ghost use Rattle.routes.specs.InOrder.{InOrder};
 ghost use Rattle.sheets.specs.Held.{read_or_none, to_read};
-ghost use Rattle.reference.specs.Shown.{shown, answer_of, left_of, written_answer};
+ghost use Rattle.reference.specs.Shown.{shown, answer_of, left_of, route_count, written_answer};
 
 use crate::{Failure, RouteList};
 use address::Address;
@@ -22,7 +22,7 @@ fn set_of<A: Address>(
 ) -> Result<RouteSet<A>, Failure>
     requires read { is_granted (to_read A.Address.WIDTH count routes.old) ≡ true }
     requires ordered { InOrder A.Address.WIDTH (read_or_none (to_read A.Address.WIDTH count routes.old)) }
-    ensures { MatchResult result (λ set. set.routes ≡ read_or_none (to_read A.Address.WIDTH count routes.old)) (λ f. f ≡ NoMemory) }
+    ensures { MatchResult result (λ set. set.routes ≡ read_or_none (to_read A.Address.WIDTH count routes.old)) (λ f. (f ≡ NoMemory) × (1 ≤ count)) }
 {
     let mut set = RouteSet::new(heap);
     for _ in 0..count {
@@ -50,6 +50,7 @@ impl<A: Address> RouteList<A> {
         ensures answer { Says (λ n. loaded n) result (answer_of A.Address.WIDTH self.old (load bytes.now)) }
         ensures after { shown self.new ≡ leaves result (shown self.old) (left_of A.Address.WIDTH self.old (load bytes.now)) }
         ensures size { self.new.nodes ≡ self.old.nodes }
+        ensures memory { result ≡ Err NoMemory → 1 ≤ route_count (left_of A.Address.WIDTH self.old (load bytes.now)) }
     {
         let Some(plan) = &self.plan else {
             return Err(Failure::Refused(Fault::of_table(Refusal::Shut)));
