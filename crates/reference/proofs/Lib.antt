@@ -1,2 +1,3 @@
 mod Shared
 mod Nodes
+mod Loading

@@ -1,10 +1,11 @@
 -- The plain list that a route list stands for, and what its calls come to there.
-use Rattle.std.specs.Prelude.{ℕ}
+use Rattle.std.specs.Prelude.{ℕ, length}
 use Rattle.std.specs.Option.{option_map}
 use Rattle.address.specs.declared.Address.{Ghosts}
 use Rattle.bits.specs.Rows.{Bits}
 use Rattle.model.specs.Outcomes.{Outcome}
-use Rattle.model.specs.Calls.{Plain, Call, Answer, inserted, deleted, matched, counted, answer, after}
+use Rattle.model.specs.Bytes.{Bytes}
+use Rattle.model.specs.Calls.{Plain, shut, holding, Call, Answer, inserted, deleted, matched, counted, written, answer, after}
 use Rattle.plan.specs.Strides.{strides_of}
 use Rattle.routes.specs.Answered.{planned}
 use Rattle.routes.specs.Meant.{meant}
@@ -39,3 +40,12 @@ delete_answer x = deleted x.hop x.returned
 
 abbrev pub count_answer : Counted → Answer
 count_answer x = counted x.routes x.required x.free
+
+-- what a write answered, beside the output as it is then
+abbrev pub written_answer : Bytes → ℕ → Answer
+written_answer output n = written n output
+
+-- how many routes a plain list has
+abbrev pub route_count : Plain → ℕ
+route_count shut = 0
+route_count (holding plan routes) = length routes

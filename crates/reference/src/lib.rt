@@ -13,6 +13,7 @@ use routes::set::RouteSet;
 
 pub mod calls;
 mod required;
+mod sheet_calls;
 
 pub use routes::Route;
 pub use routes::failure::Failure;
