@@ -50,7 +50,7 @@ impl<A: Address, M: NodeWrite> Table<A, M> {
     }
 
     // Puts the routes of a sheet in the place of those that are held, and answers the sheet's number. Refused as the sheet is where it cannot be read, and then as
-    // *full* where its routes require more nodes than the memory has.
+    // *full* where its routes require more nodes than the memory has. Not offered yet.
     fn load(&mut self, bytes: &[u8]) -> Result<u64, Fault>
         ensures answer { (plain : Plain) (at : Placement) → Stands M.NodeRead.nodes A.Address.WIDTH self.old plain at → outcome (λ number. loaded number) result ≡ answer A.Address.WIDTH (M.NodeRead.nodes self.old.memory).size plain (calls.load bytes.now) }
         ensures after { (plain : Plain) (at : Placement) → Stands M.NodeRead.nodes A.Address.WIDTH self.old plain at → Stands M.NodeRead.nodes A.Address.WIDTH self.new (after A.Address.WIDTH (M.NodeRead.nodes self.old.memory).size plain (calls.load bytes.now)) (placed A.Address.WIDTH (M.NodeRead.nodes self.old.memory).size plain at (calls.load bytes.now)) }
