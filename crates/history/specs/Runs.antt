@@ -1,5 +1,5 @@
 -- Lists of calls: what the plain list answers to them, and runs of a table, each step being what one call does.
-use Rattle.std.specs.Prelude.{◌≡◌, ℕ, List, [], ◌∷◌, ◌++◌, Result, length, drop}
+use Rattle.std.specs.Prelude.{◌≡◌, ℕ, List, [], ◌∷◌, ◌++◌, Result, length, map, drop}
 use Rattle.address.specs.declared.Address.{Ghosts as Kind}
 use Rattle.bits.specs.Rows.{Bits}
 use Rattle.faults.specs.declared.Fault.{Fault}
@@ -40,3 +40,10 @@ module _ {X Y : Type 0} {G : Kind X} (nodes : Y → Nodes) (bits : X → Bits) (
     pub answers : List (Result (Granted X G) Fault)
     pub runs : Runs t cs answers u
     pub is : after ≡ answers ++ drop (length cs) before
+
+-- answers that lie in their places and are the plain list's, and those behind them as they were
+module _ {X : Type 0} {G : Kind X} (bits : X → Bits) (W N : ℕ) where
+  pub record Answered (plain : Plain) (cs : List (Call X)) (before after : List (Result (Granted X G) Fault)) : Type 0 where
+    pub answers : List (Result (Granted X G) Fault)
+    pub is : after ≡ answers ++ drop (length cs) before
+    pub told : map (outcome (said bits)) answers ≡ all_answers W N plain (map (call_of bits) cs)

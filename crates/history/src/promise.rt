@@ -1,4 +1,4 @@
-ghost use Rattle.std.specs.Prelude.{◌≡◌, ◌&&◌, true, length, map, nat_le};
+ghost use Rattle.std.specs.Prelude.{◌≡◌, ◌&&◌, true, false, length, map, nat_le};
 ghost use mathlib.Core.List.{Permᴰ};
 ghost use Rattle.model.specs.Calls.{Plain, after_all, holding, shut};
 ghost use Rattle.model.specs.Placements.{Placement};
@@ -7,6 +7,7 @@ ghost use Rattle.routes.specs.Meant.{meant};
 ghost use Rattle.table.specs.Placed.{placed_all};
 ghost use Rattle.table.specs.Stands.{Stands};
 ghost use Rattle.history.specs.Asked.{call_of, inserts};
+ghost use Rattle.history.specs.Runs.{Answered};
 ghost use Rattle.history.specs.Twins.{CannotBeTold};
 
 use crate::course::run;
@@ -50,6 +51,9 @@ pub fn twins<A: Address, P: NodeWrite, Q: NodeWrite>(
     answers_of_second: &mut [Result<Granted<A>, Fault>],
 ) -> Both<A, P, Q>
     ensures done { result.done ≡ (nat_le (length history.now) (length past.old) && (nat_le (length further.now) (length answers.old) && nat_le (length further.now) (length answers_of_second.old))) }
+    ensures past { result.done ≡ true → Answered A.Address.bits A.Address.WIDTH (P.NodeRead.nodes first).size shut history.now past.old past.new }
+    ensures without_room { (nat_le (length history.now) (length past.old) ≡ false → past.new ≡ past.old) × ((nat_le (length further.now) (length answers.old) ≡ false → answers.new ≡ answers.old) × (nat_le (length further.now) (length answers_of_second.old) ≡ false → answers_of_second.new ≡ answers_of_second.old)) }
+    ensures always { P.NodeRead.always first result.first.memory × Q.NodeRead.always second result.second.memory }
     ensures history_cannot_be_told { (held : Routes) → result.done ≡ true → (P.NodeRead.nodes first).size ≡ (Q.NodeRead.nodes second).size → after_all A.Address.WIDTH (P.NodeRead.nodes first).size shut (map (call_of A.Address.bits) history.now) ≡ holding plan.now held → Permᴰ held (map (meant A.Address.bits) routes.now) → CannotBeTold P.NodeRead.nodes Q.NodeRead.nodes A.Address.bits A.Address.WIDTH (P.NodeRead.nodes first).size (holding plan.now held) further.now answers.old answers.new result.first answers_of_second.old answers_of_second.new result.second }
 {
     let mut one = Table::new(first);

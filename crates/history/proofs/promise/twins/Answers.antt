@@ -60,3 +60,40 @@ returns-clause-history_cannot_be_told g c held done sizes e d =
       same_answers = first.answers ∙ sym second.answers;
       told = all_told bits W N g.met.A.Address.long h (holding plan held) (sym e) c.args.further.now;
     }
+
+pub returns-clause-past : goal.returns-clause-past
+returns-clause-past g c done =
+    let W = g.A.Address.WIDTH in
+    let bits = g.A.Address.bits in
+    let P = g.P.NodeRead.nodes in
+    let N = (P c.args.first).size in
+    let at = opened_placement N in
+    let past = c.run-met.ensures.runs (and_parts c.run-met.result _ done).0 in
+    let size : (P c.new-one.result.memory).size ≡ N = ap (λ m. (P m).size) c.new-one.ensures.memory in
+    let came : Comes P bits W N shut at c.args.history.now past.answers c.run-met.new.table =
+    subst (λ (n : ℕ). Comes P bits W n shut at c.args.history.now past.answers c.run-met.new.table) size
+    (comes P bits W shut at (c.new-one.ensures.shut at) past.runs) in
+    record { answers = past.answers; is = past.is; told = came.answers }
+
+pub returns-clause-without_room : goal.returns-clause-without_room
+returns-clause-without_room g c = (
+  λ e. (c.run-met.ensures.refused (c.run-met.ensures.room ∙ e)).1,
+  (
+    λ e. (c.run-told.ensures.refused (c.run-told.ensures.room ∙ e)).1,
+    λ e. (c.run-told_of_second.ensures.refused (c.run-told_of_second.ensures.room ∙ e)).1,
+  ),
+)
+
+pub returns-clause-always : goal.returns-clause-always
+returns-clause-always g c =
+    let P = g.P.NodeRead.always in
+    let Q = g.Q.NodeRead.always in
+    let laws_of_first = g.met.P.NodeRead.laws in
+    let laws = g.met.Q.NodeRead.laws in (
+      subst (λ m. P m c.run-told.new.table.memory) c.new-one.ensures.memory
+          (laws_of_first.always_then c.new-one.result.memory c.run-met.new.table.memory c.run-told.new.table.memory c.run-met.ensures.always c.run-told.ensures.always),
+      subst (λ m. Q m c.run-told_of_second.new.table.memory) c.new-two.ensures.memory
+          (laws.always_then c.new-two.result.memory c.insert_each.new.table.memory c.run-told_of_second.new.table.memory
+          (laws.always_then c.new-two.result.memory c.open.new.self.memory c.insert_each.new.table.memory c.open.ensures.always c.insert_each.ensures.always)
+          c.run-told_of_second.ensures.always),
+    )
