@@ -1,4 +1,4 @@
-ghost use Rattle.std.specs.Prelude.{◌≡◌};
+ghost use Rattle.std.specs.Prelude.{◌≡◌, ◌≤◌, IfOk};
 ghost use Rattle.commands.specs.declared.command.Trouble.TheVariants.{Misread, NoMemory};
 
 use crate::line::{Word, Words};
@@ -117,6 +117,17 @@ impl<'a> Arguments<'a> {
         text.parse().map_err(|_| self.misread(word.place))
     }
 
+    // The number of nodes that a word stands for, at most as many as a memory has.
+    fn nodes(&self, word: Word<'_>) -> Result<usize, Misread>
+        ensures { IfOk result (λ nodes. nodes ≤ 262144) }
+    {
+        let nodes = self.parse(word)?;
+        if nodes > MOST_NODES {
+            return Err(self.misread(word.place));
+        }
+        Ok(nodes)
+    }
+
     // The prefix that the next word stands for.
     fn prefix<A: AddressText>(&mut self) -> Result<Prefix<A>, Misread> {
         let word = self.word()?;
@@ -141,10 +152,7 @@ fn read_kind<A: Address>(mut rest: Arguments<'_>) -> Result<Command<A>, Misread>
 
 fn read_open<A: Address>(heap: Global, mut rest: Arguments<'_>) -> Result<Command<A>, Trouble> {
     let word = rest.word()?;
-    let nodes: usize = rest.parse(word)?;
-    if nodes > MOST_NODES {
-        return Err(Trouble::Misread(rest.misread(word.place)));
-    }
+    let nodes = rest.nodes(word)?;
     let word = rest.word()?;
     rest.end()?;
     Ok(Command::Open(nodes, rest.strides(heap, word)?))
