@@ -1,11 +1,11 @@
 //! Writing an IPv6 address: groups between colons, the longest run of zero groups left out.
-ghost use Rattle.std.specs.Prelude.{◌≡◌, ◌+◌, ◌-◌, ◌≤◌, ◌++◌, length, IfOk, if◌then◌else◌, string_bytes, OnOk, nat_le};
-ghost use Rattle.text.specs.Colons.{groups, written, longest, first_run, colons};
+ghost use Rattle.std.specs.Prelude.{◌≡◌, ◌+◌, ◌-◌, ◌<◌, ◌≤◌, [], ◌∷◌, ◌++◌, length, IfOk, if◌then◌else◌, string_bytes, OnOk, nat_le};
+ghost use Rattle.std.specs.Char.{digit_char};
+ghost use Rattle.text.specs.Colons.{groups, hex, written, longest, first_run, colons};
 
 use address::ipv6::Ipv6;
 use std::alloc::{AllocError, Global};
 use std::array;
-use std::fmt::Write;
 use std::ops::Range;
 
 // A run of fewer zero groups is written.
@@ -48,6 +48,24 @@ fn longest_run(all: &[u16]) -> Range<usize>
     best
 }
 
+// Appends a hexadecimal digit.
+fn push_digit(out: &mut String, digit: u16) -> Result<(), AllocError>
+    requires { digit < 16 }
+    ensures { OnOk result (string_bytes out.new ≡ string_bytes out.old ++ (digit_char digit ∷ [])) }
+{
+    out.push(char::from_digit(u32::from(digit), 16).unwrap())
+}
+
+// Appends a group in hexadecimal. Not by `{:x}`, which also looks for a width and a fill: the text of an address takes half as long again.
+fn push_hex(out: &mut String, group: u16) -> Result<(), AllocError>
+    ensures { OnOk result (string_bytes out.new ≡ string_bytes out.old ++ hex group) }
+{
+    if group >= 16 {
+        push_hex(out, group / 16)?;
+    }
+    push_digit(out, group % 16)
+}
+
 // Appends groups in hexadecimal, joined by colons.
 fn push_groups(out: &mut String, all: &[u16]) -> Result<(), AllocError>
     ensures { OnOk result (string_bytes out.new ≡ string_bytes out.old ++ written all.now) }
@@ -55,9 +73,10 @@ fn push_groups(out: &mut String, all: &[u16]) -> Result<(), AllocError>
     let [first, rest @ ..] = all else {
         return Ok(());
     };
-    write!(out, "{first:x}")?;
+    push_hex(out, *first)?;
     for group in rest {
-        write!(out, ":{group:x}")?;
+        out.push(':')?;
+        push_hex(out, *group)?;
     }
     Ok(())
 }
