@@ -17,14 +17,8 @@ impl<A: Address> Prefix<A> {
     pub fn matches(&self, address: &A) -> bool
         ensures { result ≡ begins (take self.now.length (A.Address.bits self.now.address)) (A.Address.bits address.now) }
     {
-        let end = self.length.min(A::bit_count());
-        for place in (0..end).step_by(6) {
-            let left = end - place;
-            if self.address.group(place, left) != address.group(place, left) {
-                return false;
-            }
-        }
-        true
+        let front = address.first_bits(self.length);
+        self.address.first_bits(self.length).compare(&front) == Ordering::Equal
     }
 
     // No `Ord`, as for addresses (`Address::compare`).
